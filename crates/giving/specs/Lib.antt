@@ -1,0 +1,5 @@
+pub mod Refusals
+pub mod Channels
+pub mod Posts
+pub mod Receipts
+pub mod Calls

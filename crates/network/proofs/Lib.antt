@@ -1,0 +1,16 @@
+pub mod Lists
+pub mod Sum
+pub mod Count
+pub mod Slots
+pub mod Held
+pub mod Trains
+pub mod Local
+pub mod Moves
+pub mod Stock
+pub mod Fine
+pub mod Linked
+pub mod Once
+pub mod Kept
+pub mod Arrive
+pub mod Grow
+pub mod Bridge

@@ -1,0 +1,11 @@
+// Where a stretch of a seat is: held by a station, sold by it, or on its way from one to another.
+use giving::ids::StationId;
+use giving::ids::StationIdDebug;
+use giving::ids::StationIdPartialEq;
+
+#[derive(Clone, Copy, Debug, PartialEq, Eq, Drop)]
+pub enum Place {
+    Held(StationId),
+    Sold(StationId),
+    Way(StationId, StationId),
+}

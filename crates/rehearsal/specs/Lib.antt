@@ -1,0 +1,3 @@
+pub mod Lives
+pub mod Seen
+pub mod Found

@@ -1,0 +1,5 @@
+pub mod Same
+pub mod Searches
+pub mod Held
+pub mod Sales
+pub mod Opens

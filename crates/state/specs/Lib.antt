@@ -1,0 +1,4 @@
+pub mod States
+pub mod Changes
+pub mod Views
+pub mod Ready
