@@ -6,11 +6,11 @@ ghost use lib.Dec.{ltb};
 ghost use Rattle.std.specs.declared.option.Option.the-variants.{Some, None};
 
 // A station, from 0.
-#[derive(Clone, Copy, Debug, PartialEq, Eq, PartialOrd, Ord, Drop)]
+#[derive(Clone, Copy, Drop)]
 pub struct StationId(pub u8);
 
 // The number of a piece given by one station to another, from 1.
-#[derive(Clone, Copy, Debug, PartialEq, Eq, PartialOrd, Ord, Drop)]
+#[derive(Clone, Copy, PartialEq, Eq, PartialOrd, Ord, Drop)]
 pub struct Number(pub u32);
 
 impl Number {
@@ -27,5 +27,5 @@ impl Number {
 }
 
 // A ticket of a station's own, from 1.
-#[derive(Clone, Copy, Debug, PartialEq, Eq, PartialOrd, Ord, Drop)]
+#[derive(Clone, Copy, Drop)]
 pub struct Ticket(pub u32);

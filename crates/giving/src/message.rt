@@ -1,15 +1,9 @@
 // What one station says to another.
 use crate::ids::Number;
-use crate::ids::NumberDebug;
-use crate::ids::NumberPartialEq;
 use crate::ids::StationId;
-use crate::ids::StationIdDebug;
-use crate::ids::StationIdPartialEq;
 use pieces::piece::Piece;
-use pieces::piece::PieceDebug;
-use pieces::piece::PiecePartialEq;
 
-#[derive(Clone, Copy, Debug, PartialEq, Eq, Drop)]
+#[derive(Clone, Copy, Drop)]
 pub enum Body {
     // this piece is given, under this number
     Given(Number, Piece),
@@ -17,7 +11,7 @@ pub enum Body {
     Taken(Number),
 }
 
-#[derive(Clone, Copy, Debug, PartialEq, Eq, Drop)]
+#[derive(Clone, Copy, Drop)]
 pub struct Message {
     pub from: StationId,
     pub to: StationId,

@@ -3,7 +3,7 @@ ghost use mathlib.Core.Path.{_≡_};
 ghost use Rattle.giving.specs.Refusals.{number};
 ghost use Rattle.std.specs.declared.option.Option.{Option};
 
-#[derive(Clone, Copy, Debug, PartialEq, Eq, Drop)]
+#[derive(Clone, Copy, Drop)]
 pub enum Refusal {
     // a stop or a seat that the train has not, or more acknowledged than was given
     Malformed,

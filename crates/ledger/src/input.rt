@@ -1,28 +1,14 @@
 // What a station is asked, and what a call came to.
 use giving::ids::Number;
-use giving::ids::NumberDebug;
-use giving::ids::NumberPartialEq;
 use giving::ids::StationId;
-use giving::ids::StationIdDebug;
-use giving::ids::StationIdPartialEq;
 use giving::ids::Ticket;
-use giving::ids::TicketDebug;
-use giving::ids::TicketPartialEq;
 use giving::refusal::Refusal;
-use giving::refusal::RefusalDebug;
-use giving::refusal::RefusalPartialEq;
 use pieces::names::Train;
-use pieces::names::TrainDebug;
-use pieces::names::TrainPartialEq;
 use pieces::piece::Piece;
-use pieces::piece::PieceDebug;
-use pieces::piece::PiecePartialEq;
 use state::record::Record;
-use state::record::RecordDebug;
-use state::record::RecordPartialEq;
 
 // What a station is asked at its counter, or told by another.
-#[derive(Clone, Copy, Debug, PartialEq, Eq, Drop)]
+#[derive(Clone, Copy, Drop)]
 pub enum Input {
     Close(Train),
     Sell(Piece),
@@ -33,7 +19,7 @@ pub enum Input {
 }
 
 // What a call came to.
-#[derive(Clone, Copy, Debug, PartialEq, Eq, Drop)]
+#[derive(Clone, Copy, Drop)]
 pub enum Outcome {
     Done(Record),
     // there was nothing to do: heard before, or nothing held that could be given

@@ -1,9 +1,7 @@
 // Where a stretch of a seat is: held by a station, sold by it, or on its way from one to another.
 use giving::ids::StationId;
-use giving::ids::StationIdDebug;
-use giving::ids::StationIdPartialEq;
 
-#[derive(Clone, Copy, Debug, PartialEq, Eq, Drop)]
+#[derive(Clone, Copy, Drop)]
 pub enum Place {
     Held(StationId),
     Sold(StationId),

@@ -9,7 +9,7 @@ pub fn put_back_stands() -> u8
 }
 
 // Held stretches lie in runs, and runs that meet are one.
-pub fn runs_stand() -> u8
+pub fn joined_stands() -> u8
     ensures { λ _. ⌜ Runs ⌝ }
 {
     0

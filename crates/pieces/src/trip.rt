@@ -1,12 +1,10 @@
 // A trip: from a stop up to a later one. No train has more than 30 stops.
 ghost use Prim.Native.Nat.{_<_};
 use crate::names::Stop;
-use crate::names::StopDebug;
-use crate::names::StopPartialEq;
 
 pub mod makes;
 
-#[derive(Clone, Copy, Debug, PartialEq, Eq, Drop)]
+#[derive(Clone, Copy, Drop)]
 pub struct Trip {
     pub from: Stop,
     pub to: Stop,

@@ -14,19 +14,17 @@ use Rattle.ledger.specs.Decisions.{decided, decidedOpen, listing, after, record
 use Rattle.ledger.specs.declared.input.Input.{Input}
 use Rattle.ledger.specs.declared.input.Input.the-variants.{Close, Sell, Undo, Give, Take, Hear}
 use Rattle.ledger.specs.declared.input.Outcome.{Outcome}
-use Rattle.network.specs.Places.{places, gather}
+use Rattle.network.specs.Places.{gather}
 use Rattle.network.specs.Worlds.{World, channel, reminder, Steps}
-use Rattle.pieces.specs.declared.names.Train.{Train}
 use Rattle.rehearsal.specs.Lives.{shown, journalOf, worldOf, nowhere}
 use Rattle.rehearsal.specs.declared.post.Post.{Post}
 use Rattle.rehearsal.specs.declared.request.Request.{Request}
 use Rattle.rehearsal.specs.declared.request.Request.the-variants as request
 use Rattle.rehearsal.specs.declared.world.World.{World as Code}
-use Rattle.state.specs.States.{State, isOpen, wasClosed}
+use Rattle.state.specs.States.{State}
 use Rattle.state.specs.declared.record.Record.{Record}
 use Rattle.std.specs.Of.Vec.{vec-items}
-use Rattle.std.specs.declared.option.Option.the-variants.{Some}
-use Rattle.timetable.specs.Rows.{Table, stretches}
+use Rattle.timetable.specs.Rows.{Table}
 use Rattle.timetable.specs.Tables.{table}
 use Rattle.timetable.specs.declared.row.Row.{Row}
 
@@ -79,11 +77,7 @@ abbrev pub inputOf : StationId → Body → Input
 inputOf from (body.Given n p) = Take from n p
 inputOf from (body.Taken n) = Hear from n
 
--- of each train, from where its first station has opened it to where a station first closes it, the stretch from stop u of seat s is in exactly one place
-abbrev pub OneAt : Code → Train → (s u : ℕ) → Type 0
-OneAt w t s u = (r : Row) → rows w (t .0) ≡ Some r → isOpen (stateOf w (r .first .0)) t ≡ true → ((k : ℕ) → k < count w → wasClosed (stateOf w k) t ≡ false) → s < r .seats → u < stretches r →
-    length (places (count w) t s u (stateOf w)) ≡ 1
-
+-- what a request at the counter is to the station
 abbrev pub asking : Request → Input
 asking (request.Close t) = Close t
 asking (request.Sell p) = Sell p

@@ -1,22 +1,12 @@
 // What a station writes down, and what its state is made of.
 use giving::ids::Number;
-use giving::ids::NumberDebug;
-use giving::ids::NumberPartialEq;
 use giving::ids::StationId;
-use giving::ids::StationIdDebug;
-use giving::ids::StationIdPartialEq;
 use giving::ids::Ticket;
-use giving::ids::TicketDebug;
-use giving::ids::TicketPartialEq;
 use pieces::names::Train;
-use pieces::names::TrainDebug;
-use pieces::names::TrainPartialEq;
 use pieces::piece::Piece;
-use pieces::piece::PieceDebug;
-use pieces::piece::PiecePartialEq;
 
 // Every change of a station's lasting state.
-#[derive(Clone, Copy, Debug, PartialEq, Eq, Drop)]
+#[derive(Clone, Copy, Drop)]
 pub enum Record {
     Opened(Train),
     Closed(Train),
@@ -31,14 +21,14 @@ pub enum Record {
 }
 
 // A place for an open train.
-#[derive(Clone, Copy, Debug, PartialEq, Eq, Drop)]
+#[derive(Clone, Copy, Drop)]
 pub enum Slot {
     Free,
     Open(Train),
 }
 
 // A ticket: it stands, or it was undone, or its train was closed.
-#[derive(Clone, Copy, Debug, PartialEq, Eq, Drop)]
+#[derive(Clone, Copy, Drop)]
 pub enum Sale {
     Stands(Piece),
     Returned,

@@ -23,8 +23,3 @@ within r p = ltb (p .seat .0) (r .seats) && ltb (p .to .0) (r .stops)
 abbrev pub listed : Option Row → Piece → Bool
 listed None p = false
 listed (Some r) p = within r p
-
--- the train has the piece, if it is in the timetable
-abbrev pub plausible : Option Row → Piece → Bool
-plausible None p = true
-plausible (Some r) p = within r p

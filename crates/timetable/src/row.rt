@@ -1,15 +1,11 @@
 // One train of the timetable. Its stops are 0 to `stops` - 1.
 ghost use Prim.Native.Nat.{_≤_};
 use giving::ids::StationId;
-use giving::ids::StationIdDebug;
-use giving::ids::StationIdPartialEq;
 use pieces::names::Train;
-use pieces::names::TrainDebug;
-use pieces::names::TrainPartialEq;
 
 pub mod makes;
 
-#[derive(Clone, Copy, Debug, PartialEq, Eq, Drop)]
+#[derive(Clone, Copy, Drop)]
 pub struct Row {
     pub train: Train,
     pub seats: u16,

@@ -3,7 +3,7 @@ ghost use mathlib.Core.Path.{_≡_};
 ghost use Prim.Native.Nat.{ℕ};
 ghost use Rattle.std.specs.declared.option.Option.the-variants.{None};
 ghost use Rattle.timetable.specs.Additions.{empty, admitted, Added};
-ghost use Rattle.timetable.specs.Rows.{listed, plausible};
+ghost use Rattle.timetable.specs.Rows.{listed};
 ghost use Rattle.timetable.specs.Tables.{table};
 use super::Timetable;
 use crate::row::Row;
@@ -38,16 +38,6 @@ impl Timetable {
     {
         match self.row(piece.train) {
             None => false,
-            Some(row) => row.has(piece),
-        }
-    }
-
-    // Whether the train of a piece has the piece, if it is in the timetable.
-    pub fn is_plausible(&self, piece: Piece) -> bool
-        ensures { λ r. ⌜ r ≡ plausible (table (now (self .entry)) (piece .train .0)) piece ⌝ }
-    {
-        match self.row(piece.train) {
-            None => true,
             Some(row) => row.has(piece),
         }
     }
