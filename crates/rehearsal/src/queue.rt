@@ -2,9 +2,10 @@
 ghost use mathlib.Core.List.{[], _∷_, _++_};
 ghost use mathlib.Core.Path.{_≡_};
 ghost use Prim.Native.Nat.{_+_, _-_, _≤_};
+ghost use lib.Dec.{ltb};
 ghost use lib.ListN.{drop, take};
 ghost use Rattle.network.specs.Places.{gather};
-ghost use Rattle.std.specs.Of.VecDeque.{deque-items};
+ghost use Rattle.std.specs.Of.VecDeque.{deque-items, deque-len};
 ghost use Rattle.std.specs.Vec.{listOf, made};
 use std::alloc::AllocError;
 use std::alloc::Global;
@@ -40,7 +41,8 @@ impl Queue {
 
     // The first message goes to the end; false where there is none.
     pub fn delay(&mut self) -> bool
-        ensures { λ _. ⌜ deque-items (now (self .exit) .places) ≡ drop 1 (deque-items (now (self .entry) .places)) ++ take 1 (deque-items (now (self .entry) .places)) ⌝ }
+        ensures value { λ r. ⌜ r ≡ ltb 0 (deque-len (now (self .entry) .places)) ⌝ }
+        ensures after { λ _. ⌜ deque-items (now (self .exit) .places) ≡ drop 1 (deque-items (now (self .entry) .places)) ++ take 1 (deque-items (now (self .entry) .places)) ⌝ }
     {
         if self.places.is_empty() {
             return false;
