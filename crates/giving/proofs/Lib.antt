@@ -1,3 +1,2 @@
 pub mod Mapped
 pub mod Waiting
-pub mod Counted

@@ -16,7 +16,8 @@ use Rattle.state.specs.declared.record.Slot.the-variants.{Free, Open}
 use Rattle.network.proofs.Count.{one}
 use Rattle.network.proofs.Slots.{place-le, place-reads, place-none, place-first, place-other, place-new, same-open, differ, free-only, Unique}
 use Rattle.network.specs.Places.{holding}
-use Rattle.pieces.proofs.Bitwise.{holds-less, holds-plus, holds-span, holds-past, covered-decides}
+use Rattle.pieces.proofs.Bitwise.{holds-less, holds-plus, holds-past, covered-decides}
+use Rattle.pieces.proofs.Places.{word-set, word-set-other, seated-in, seated-out}
 use Rattle.pieces.specs.Memory.{at, wordAt, seated, placed}
 use Rattle.pieces.specs.Parts.{has}
 use Rattle.pieces.specs.Stretches.{holds, within, covered, less, plus, span}
@@ -62,58 +63,16 @@ bit-le false = omega arith
 
 -- ---- words at places
 
-word-here : (ws : List ℕ) (k s v : ℕ) → at k s < length ws → wordAt (set ws (at k s) v) k s ≡ v
-word-here ws k s v l = getD-set-same ws (at k s) v 0 l
-
-word-there : (ws : List ℕ) (k s v j r : ℕ) → s < 400 → r < 400 → ((j ≡ k) × (r ≡ s) → ⊥) → wordAt (set ws (at k s) v) j r ≡ wordAt ws j r
-word-there ws k s v j r ls lr d = getD-set-other ws (at k s) (at j r) v 0 (λ e. d (omega arith, omega arith))
-
 -- a place that is not there
 word-past : (ws : List ℕ) (k s : ℕ) → length ws ≡ 25600 → 64 ≤ k → wordAt ws k s ≡ 0
 word-past ws k s e l = getD-past ws (at k s) 0 (omega arith)
-
-pub placed-here : (ws vs : List ℕ) (k s : ℕ) → length ws ≡ 25600 → length vs ≡ 400 → k < 64 → s < 400 → wordAt (placed ws k vs) k s ≡ getD vs s 0
-placed-here ws vs k s e f lk ls =
-    let n : length (take (k * 400) ws) ≡ k * 400 = length-take-le (k * 400) ws (omega arith) in
-    getD-append-right (take (k * 400) ws) (vs ++ drop (k * 400 + 400) ws) (k * 400) (at k s) 0 n (omega arith)
-    ∙ ap (λ (i : ℕ). getD (vs ++ drop (k * 400 + 400) ws) i 0) (omega arith)
-    ∙ getD-append-left vs (drop (k * 400 + 400) ws) 0 s (omega arith)
-
-pub placed-there : (ws vs : List ℕ) (k j s : ℕ) → length ws ≡ 25600 → length vs ≡ 400 → k < 64 → s < 400 → (j ≡ k → ⊥) → wordAt (placed ws k vs) j s ≡ wordAt ws j s
-placed-there ws vs k j s e f lk ls d = go (cases-lt j k)
-  where
-    n : length (take (k * 400) ws) ≡ k * 400
-    n = length-take-le (k * 400) ws (omega arith)
-
-    go : (j < k) ⊎ (k ≤ j) → wordAt (placed ws k vs) j s ≡ wordAt ws j s
-    go (inl l) =
-        getD-append-left (take (k * 400) ws) (vs ++ drop (k * 400 + 400) ws) 0 (at j s) (omega (arith, n)) ∙ getD-take (k * 400) ws (at j s) 0 (omega arith)
-    go (inr l) =
-        let m : k < j = omega (arith, d) in
-        getD-append-right (take (k * 400) ws) (vs ++ drop (k * 400 + 400) ws) (k * 400) (at j s) 0 n (omega arith)
-        ∙ getD-append-right vs (drop (k * 400 + 400) ws) 400 (at j s - k * 400) 0 f (omega arith)
-        ∙ getD-drop (k * 400 + 400) ws (at j s - k * 400 - 400) 0
-        ∙ ap (λ (i : ℕ). getD ws i 0) (omega arith)
-
-pub placed-long : (ws vs : List ℕ) (k : ℕ) → length ws ≡ 25600 → length vs ≡ 400 → k < 64 → length (placed ws k vs) ≡ 25600
-placed-long ws vs k e f l =
-    omega (
-      arith,
-      length-append (take (k * 400) ws) (vs ++ drop (k * 400 + 400) ws),
-      length-append vs (drop (k * 400 + 400) ws),
-      length-take-le (k * 400) ws (omega arith),
-      length-drop (k * 400 + 400) ws,
-    )
-
-pub seated-long : (n w : ℕ) → n ≤ 400 → length (seated n w) ≡ 400
-seated-long n w l = omega (arith, length-append (replicate n w) (replicate (400 - n) 0), length-replicate n w, length-replicate {A = ℕ} (400 - n) 0)
 
 pub seated-bit : (n w s u : ℕ) → n ≤ 400 → s < 400 → bit (getD (seated n w) s 0) u ≡ cond (ltb s n) (bit w u) 0
 seated-bit n w s u l ls = go (cases-lt s n)
   where
     go : (s < n) ⊎ (n ≤ s) → bit (getD (seated n w) s 0) u ≡ cond (ltb s n) (bit w u) 0
-    go (inl h) = rw (lt-ltb s n h, getD-append-left (replicate n w) (replicate (400 - n) 0) 0 s (omega (arith, length-replicate n w)), getD-replicate n s w 0 h) refl
-    go (inr h) = rw (le-ltb s n h, getD-append-right (replicate n w) (replicate (400 - n) 0) n s 0 (length-replicate n w) h, getD-replicate {A = ℕ} (400 - n) (s - n) 0 0 (omega arith)) (bit-zero u)
+    go (inl h) = rw (lt-ltb s n h, seated-in n w s h) refl
+    go (inr h) = rw (le-ltb s n h, seated-out n w s h) (bit-zero u)
 
 -- ---- a station's state
 
@@ -139,12 +98,12 @@ module _ (x : State) (sound : Sound x) (p : Piece) (o : isOpen x (p .train) ≡ 
   pub wrote-here : (t : Train) (s u v : ℕ) → t .0 ≡ p .train .0 → s ≡ p .seat .0 → holding t s u (withWords x (set (x .words) (at (place x (p .train)) (p .seat .0)) v)) ≡ holds v u
   wrote-here t s u v e f =
       ap₂ (λ (z : Train) (r : ℕ). holds (wordAt (set (x .words) (at (place x (p .train)) (p .seat .0)) v) (place x z) r) u) (ap (λ (n : ℕ). record { 0 = n }) e) f
-      ∙ ap (λ (w : ℕ). holds w u) (word-here (x .words) (place x (p .train)) (p .seat .0) v (omega (arith, open-lt x (p .train) o, sound .slots, sound .words)))
+      ∙ ap (λ (w : ℕ). holds w u) (word-set (x .words) (place x (p .train)) (p .seat .0) v (omega (arith, open-lt x (p .train) o, sound .slots, sound .words)))
 
   pub wrote-there : (t : Train) (s u v : ℕ) → s < 400 → ((t .0 ≡ p .train .0) × (s ≡ p .seat .0) → ⊥) → holding t s u (withWords x (set (x .words) (at (place x (p .train)) (p .seat .0)) v)) ≡ holding t s u x
   wrote-there t s u v l d =
       ap (λ (w : ℕ). holds w u)
-      (word-there (x .words) (place x (p .train)) (p .seat .0) v (place x t) s seat l
+      (word-set-other (x .words) (place x (p .train)) (p .seat .0) v (place x t) s seat l
       (λ (e, f). ⊎-elim (λ g. d (g, f)) (λ g. place-apart x t (p .train) o g e) (cases-eq (t .0) (p .train .0))))
 
 -- ---- a piece taken out, and put back

@@ -9,7 +9,7 @@ use lib.Dec.{ltb, leb}
 use Rattle.giving.specs.declared.ids.Number.{Number}
 use Rattle.giving.specs.declared.ids.StationId.{StationId}
 use Rattle.network.proofs.Held.{Sound, bit-le, wrote-here, wrote-there, both}
-use Rattle.network.proofs.Local.{FitsTaken, fits-taken, listed-seat}
+use Rattle.network.proofs.Local.{FitsTaken, fits-taken}
 use Rattle.network.proofs.Moves.{Received, shut, there, anew, received-by, received-closed}
 use Rattle.network.proofs.Trains.{opened-open, opened-sound, in-opened}
 use Rattle.network.specs.Places.{holding}
@@ -18,6 +18,7 @@ use Rattle.pieces.specs.Memory.{wordAt}
 use Rattle.pieces.specs.Stretches.{holds, within, covered, plus}
 use Rattle.pieces.specs.declared.names.Train.{Train}
 use Rattle.pieces.specs.declared.piece.Piece.{Piece}
+use Rattle.state.proofs.Opens.{listed-seat}
 use Rattle.state.specs.Changes.{apply, fits, putBack, opened, received}
 use Rattle.state.specs.States.{State, place, isOpen, among, wasClosed, holdsPiece}
 use Rattle.state.specs.declared.record.Record.the-variants.{Taken}

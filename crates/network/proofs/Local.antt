@@ -80,9 +80,6 @@ pub listed-row : (o : Option Row) (p : Piece) → listed o p ≡ true → Listed
 listed-row None p e = absurd (false≢true e)
 listed-row (Some r) p e = let q = and-parts (ltb (p .seat .0) (r .seats)) (ltb (p .to .0) (r .stops)) e in record { row = r; is = refl; seat = ltb-true _ _ (q .0); to = ltb-true _ _ (q .1) }
 
-pub listed-seat : (o : Option Row) (p : Piece) → listed o p ≡ true → p .seat .0 < 400
-listed-seat o p e = let l = listed-row o p e in omega (arith, l .seat, l .row .few)
-
 pub not-true : (b : Bool) → not b ≡ true → b ≡ false
 not-true true e = absurd (false≢true e)
 not-true false e = refl

@@ -22,7 +22,7 @@ use Rattle.state.specs.declared.record.Sale.the-variants.{Stands, Returned}
 use Rattle.state.specs.declared.record.Slot.the-variants.{Free}
 use Rattle.network.proofs.Count.{givenOf, takenOf, standing-push, standing-trimmed, one, count-nil, count-push, count-returned, count-to, one-other, count-forgotten, count-forgotten-all}
 use Rattle.network.proofs.Held.{Sound, inWord, in-out, in-back, in-shut}
-use Rattle.network.proofs.Local.{Line, line-gave, line-took, line-heard, Listed, listed-row, listed-seat, not-true, or-false, free-lt, fits-opened, fits-sold, fits-given, fits-taken, fits-heard}
+use Rattle.network.proofs.Local.{Line, line-gave, line-took, line-heard, Listed, listed-row, not-true, or-false, free-lt, fits-opened, fits-sold, fits-given, fits-taken, fits-heard}
 use Rattle.network.proofs.Sum.{sumTo, sum-zero}
 use Rattle.network.proofs.Trains.{share, opened-open, opened-same, opened-sound, in-opened, closing-same, closing-shut, closing-sound, in-closing}
 use Rattle.network.specs.Places.{countIn, standing}

@@ -9,6 +9,7 @@ use native.Mathlib.Omega.{arith}
 use lib.Dec.{eqb, ltb, leb}
 use lib.ListN.{length, getD, set, replicate, length-append, length-replicate}
 use lib.Seq.{getD-set-other}
+use Rattle.state.proofs.Opens.{listed-seat}
 use Rattle.state.specs.Changes.{apply}
 use Rattle.ledger.specs.Decisions.{decided}
 use Rattle.state.specs.States.{State, begun, isOpen, wasClosed, known, place, holdsPiece, ticketsLeft, sold}
@@ -21,7 +22,7 @@ use Rattle.network.proofs.Count.{one, count-returned}
 use Rattle.network.proofs.Fine.{begun-shut, real-at}
 use Rattle.network.proofs.Held.{inWord, in-shut}
 use Rattle.network.proofs.Linked.{Ok, ok-reach, way, total, total-most, total-even, total-one, dues-one}
-use Rattle.network.proofs.Local.{listed-row, listed-seat}
+use Rattle.network.proofs.Local.{listed-row}
 use Rattle.network.proofs.Stock.{stock, due}
 use Rattle.network.proofs.Sum.{sumTo, sum-cong, sum-add, sum-zero, sum-has, sum-has-two}
 use Rattle.network.proofs.Trains.{share}

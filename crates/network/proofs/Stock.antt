@@ -11,6 +11,7 @@ use lib.ListN.{length, getD, set}
 use Rattle.giving.specs.declared.ids.Number.{Number}
 use Rattle.giving.specs.declared.ids.StationId.{StationId}
 use Rattle.giving.specs.declared.ids.Ticket.{Ticket}
+use Rattle.state.proofs.Opens.{listed-seat}
 use Rattle.state.specs.Changes.{apply, fits, takenOut, putBack, opened, closing, received, returned, returnable, forgotten, trimmed}
 use Rattle.state.specs.States.{State, placeOf, isOpen, among, wasClosed, known, ticketOf}
 use Rattle.state.specs.declared.record.Record.{Record}
@@ -20,7 +21,7 @@ use Rattle.state.specs.declared.record.Sale.the-variants.{Stands, Returned}
 use Rattle.state.specs.declared.record.Slot.the-variants.{Free}
 use Rattle.network.proofs.Count.{givenOf, takenOf, standing-push, standing-trimmed, one, count-nil, count-push, count-returned, count-to, one-other, count-forgotten, count-forgotten-all}
 use Rattle.network.proofs.Held.{Sound, inWord, in-out, in-back, in-shut}
-use Rattle.network.proofs.Local.{listed-row, listed-seat, or-false, fits-opened, fits-sold, fits-given, fits-taken}
+use Rattle.network.proofs.Local.{listed-row, or-false, fits-opened, fits-sold, fits-given, fits-taken}
 use Rattle.network.proofs.Moves.{Received, shut, there, anew, received-by, received-me, received-closed, received-tickets}
 use Rattle.network.proofs.Sum.{sumTo, sum-zero}
 use Rattle.network.proofs.Trains.{share, share-le, opened-open, opened-same, opened-sound, in-opened, closing-same, closing-shut, closing-sound, in-closing}

@@ -13,10 +13,11 @@ use Rattle.state.specs.Changes.{takenOut, putBack, opening, opened, closing}
 use Rattle.state.specs.States.{State, same, placeOf, place, isOpen}
 use Rattle.state.specs.declared.record.Slot.{Slot}
 use Rattle.state.specs.declared.record.Slot.the-variants.{Free, Open}
-use Rattle.network.proofs.Held.{Sound, bit, bit-zero, inWord, in-shut, open-lt, shut-is, placed-here, placed-there, placed-long, seated-long, seated-bit, place-apart}
+use Rattle.network.proofs.Held.{Sound, bit, bit-zero, inWord, in-shut, open-lt, shut-is, seated-bit, place-apart}
 use Rattle.network.proofs.Slots.{place-le, place-reads, place-none, place-first, place-other, place-new, same-open, same-train, differ, free-only, Unique}
 use Rattle.network.specs.Places.{holding}
 use Rattle.pieces.proofs.Bitwise.{holds-span}
+use Rattle.pieces.proofs.Places.{length-seated, length-placed, word-placed, word-placed-other}
 use Rattle.pieces.specs.Memory.{wordAt, seated, placed}
 use Rattle.pieces.specs.Stretches.{holds, within, span}
 use Rattle.pieces.specs.declared.names.Train.{Train}
@@ -86,7 +87,7 @@ module _ (x : State) (sound : Sound x) (z : Train) (r : Row) (shut : isOpen x z 
   opened-sound =
       record {
         slots = length-set (x .slots) (placeOf (x .slots) Free) (Open z) ∙ sound .slots;
-        words = placed-long (x .words) _ (placeOf (x .slots) Free) (sound .words) (seated-long (r .seats) (opening (x .me) r) (r .few)) (omega (arith, free, sound .slots));
+        words = length-placed (x .words) _ (placeOf (x .slots) Free) (omega (arith, free, sound .slots, sound .words)) (length-seated (r .seats) (opening (x .me) r) (r .few)) ∙ sound .words;
         unique = λ t k l e. go t k (rw (length-set (x .slots) (placeOf (x .slots) Free) (Open z)) at l) e (cases-eq k (placeOf (x .slots) Free)) (cases-eq (t .0) (z .0));
       }
     where
@@ -108,7 +109,7 @@ module _ (x : State) (sound : Sound x) (z : Train) (r : Row) (shut : isOpen x z 
       vs = seated (r .seats) (opening (x .me) r)
 
       long : length vs ≡ 400
-      long = seated-long (r .seats) (opening (x .me) r) (r .few)
+      long = length-seated (r .seats) (opening (x .me) r) (r .few)
 
       go : (t .0 ≡ z .0) ⊎ (t .0 ≡ z .0 → ⊥) → inWord t s u l (opened (Some r) z x) ≡ inWord t s u l x + cond (eqb (t .0) (z .0)) (share (Some r) (x .me) s u) 0
       go (inl e) =
@@ -116,11 +117,11 @@ module _ (x : State) (sound : Sound x) (z : Train) (r : Row) (shut : isOpen x z 
           let is : inWord t s u l (opened (Some r) z x) ≡ share (Some r) (x .me) s u =
           ap (λ (n : ℕ). inWord (record { 0 = n }) s u l (opened (Some r) z x)) e
           ∙ ap (λ (k : ℕ). bit (wordAt (placed (x .words) (placeOf (x .slots) Free) vs) k s) u) place-z
-          ∙ ap (λ (v : ℕ). bit v u) (placed-here (x .words) vs (placeOf (x .slots) Free) s (sound .words) long (omega (arith, free, sound .slots)) l)
+          ∙ ap (λ (v : ℕ). bit v u) (word-placed (x .words) vs (placeOf (x .slots) Free) (omega (arith, free, sound .slots, sound .words)) long s l)
           ∙ opening-bit (x .me) r s u l in
           rw (eq-eqb (t .0) (z .0) e) (omega (arith, was, is))
       go (inr d) =
-          rw (ne-eqb (t .0) (z .0) d, place-t t d, placed-there (x .words) vs (placeOf (x .slots) Free) (place x t) s (sound .words) long (omega (arith, free, sound .slots)) l (not-free t)) (omega arith)
+          rw (ne-eqb (t .0) (z .0) d, place-t t d, word-placed-other (x .words) vs (placeOf (x .slots) Free) (omega (arith, free, sound .slots, sound .words)) long (place x t) s l (not-free t)) (omega arith)
 
 -- ---- closed
 

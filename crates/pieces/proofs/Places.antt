@@ -4,38 +4,19 @@ use mathlib.Core.List.{List, _++_}
 use mathlib.Core.Logic.{⊎-elim}
 use Prim.Native.Nat.{ℕ, _+_, _-_, _*_, _<_, _≤_}
 use native.Mathlib.Omega.{arith}
-use lib.ListN.{length, getD, take, drop, replicate}
-use Rattle.std.proofs.shelf.Lists.{length-set, length-append, length-take-le, length-drop, length-replicate, getD-set-same, getD-set-other, getD-append-left, getD-append-right, getD-take, getD-drop, getD-replicate, getD-past}
+use lib.ListN.{length, getD, set, take, drop, replicate}
+use Rattle.std.proofs.shelf.Lists.{length-append, length-take-le, length-drop, length-replicate, getD-set-same, getD-set-other, getD-append-left, getD-append-right, getD-take, getD-drop, getD-replicate, getD-past}
 use Rattle.std.proofs.shelf.Tests.{cases-lt, cases-order}
-use Rattle.pieces.specs.Memory.{at, wordAt, without, together, seated, placed}
-use Rattle.pieces.specs.Stretches.{less, plus}
+use Rattle.pieces.specs.Memory.{at, wordAt, seated, placed}
 
-pub at-same : (k s j t : ℕ) → s < 400 → t < 400 → at k s ≡ at j t → (k ≡ j) × (s ≡ t)
-at-same k s j t h i e = (omega arith, omega arith)
+-- ---- the word of one seat is written
 
-pub at-below : (k s n : ℕ) → k < n → s < 400 → at k s < n * 400
-at-below k s n h i = omega arith
-
--- ---- one seat
-
-pub length-without : (ws : List ℕ) (k s a b : ℕ) → length (without ws k s a b) ≡ length ws
-length-without ws k s a b = length-set ws (at k s) (less (wordAt ws k s) a b)
-
-pub length-together : (ws : List ℕ) (k s a b : ℕ) → length (together ws k s a b) ≡ length ws
-length-together ws k s a b = length-set ws (at k s) (plus (wordAt ws k s) a b)
-
-pub word-without : (ws : List ℕ) (k s a b : ℕ) → at k s < length ws → wordAt (without ws k s a b) k s ≡ less (wordAt ws k s) a b
-word-without ws k s a b h = getD-set-same ws (at k s) (less (wordAt ws k s) a b) 0 h
-
-pub word-together : (ws : List ℕ) (k s a b : ℕ) → at k s < length ws → wordAt (together ws k s a b) k s ≡ plus (wordAt ws k s) a b
-word-together ws k s a b h = getD-set-same ws (at k s) (plus (wordAt ws k s) a b) 0 h
+pub word-set : (ws : List ℕ) (k s v : ℕ) → at k s < length ws → wordAt (set ws (at k s) v) k s ≡ v
+word-set ws k s v h = getD-set-same ws (at k s) v 0 h
 
 -- every other seat keeps its word
-pub word-without-other : (ws : List ℕ) (k s a b j t : ℕ) → s < 400 → t < 400 → ((j ≡ k) × (t ≡ s) → ⊥) → wordAt (without ws k s a b) j t ≡ wordAt ws j t
-word-without-other ws k s a b j t h i n = getD-set-other ws (at k s) (at j t) (less (wordAt ws k s) a b) 0 (λ e. n (at-same j t k s i h e))
-
-pub word-together-other : (ws : List ℕ) (k s a b j t : ℕ) → s < 400 → t < 400 → ((j ≡ k) × (t ≡ s) → ⊥) → wordAt (together ws k s a b) j t ≡ wordAt ws j t
-word-together-other ws k s a b j t h i n = getD-set-other ws (at k s) (at j t) (plus (wordAt ws k s) a b) 0 (λ e. n (at-same j t k s i h e))
+pub word-set-other : (ws : List ℕ) (k s v j t : ℕ) → s < 400 → t < 400 → ((j ≡ k) × (t ≡ s) → ⊥) → wordAt (set ws (at k s) v) j t ≡ wordAt ws j t
+word-set-other ws k s v j t h i n = getD-set-other ws (at k s) (at j t) v 0 (λ e. n (omega arith, omega arith))
 
 -- ---- a place written anew
 

@@ -1,8 +1,6 @@
 // Plays a script of up to eight stations in memory, and prints what they say and where each stretch of each seat is.
-mod command;
 mod map;
 mod player;
-mod show;
 
 use player::Player;
 use std::error::AnyError;

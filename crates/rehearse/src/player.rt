@@ -1,10 +1,5 @@
 // The world of a script, and the line of messages between its stations.
-use crate::command::Command;
-use crate::command::Deed;
-use crate::command::read;
 use crate::map::train_map;
-use crate::show::out;
-use crate::show::refused;
 use giving::ids::StationId;
 use giving::ids::Ticket;
 use giving::refusal::Refusal;
@@ -16,6 +11,11 @@ use pieces::trip::Trip;
 use rehearsal::queue::Queue;
 use rehearsal::request::Request;
 use rehearsal::world::World;
+use script::command::Command;
+use script::command::Deed;
+use script::command::read;
+use script::show::out;
+use script::show::refused;
 use std::alloc::AllocError;
 use std::alloc::Global;
 use std::str::from_utf8;

@@ -1,13 +1,13 @@
 // What is answered to a line of the script.
 use super::Player;
 use super::row;
-use crate::show::delivery;
-use crate::show::refused;
 use giving::ids::StationId;
 use giving::message::Body;
 use giving::refusal::Refusal;
 use ledger::input::Outcome;
 use pieces::names::Train;
+use script::show::delivery;
+use script::show::refused;
 use state::record::Record;
 use std::alloc::AllocError;
 use std::alloc::Global;

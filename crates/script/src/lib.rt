@@ -1,0 +1,3 @@
+// The lines of a script, and the text of messages and refusals.
+pub mod command;
+pub mod show;
