@@ -4,10 +4,8 @@ use giving::ids::StationId;
 use giving::ids::Ticket;
 use giving::refusal::Refusal;
 use pieces::names::Seat;
-use pieces::names::Stop;
 use pieces::names::Train;
 use pieces::piece::Piece;
-use pieces::trip::Trip;
 use rehearsal::queue::Queue;
 use rehearsal::request::Request;
 use rehearsal::world::World;
@@ -16,10 +14,11 @@ use script::command::Deed;
 use script::command::read;
 use script::show::out;
 use script::show::refused;
+use script::values::station_id;
+use script::values::trip;
 use std::alloc::AllocError;
 use std::alloc::Global;
 use std::str::from_utf8;
-use timetable::row::Row;
 
 pub mod answers;
 
@@ -31,35 +30,6 @@ pub struct Player {
     queue: Queue,
     // the trains that were ever opened, by number
     trains: Vec<Train>,
-}
-
-// The trip from a stop to a stop, where both can be stops.
-fn trip(from: u32, to: u32) -> Option<Trip> {
-    if from > 255 || to > 255 {
-        return None;
-    }
-    Trip::new(Stop(from as u8), Stop(to as u8))
-}
-
-// A station by its number; one that cannot be is the last of all, which is never there.
-fn station_id(number: u32) -> StationId {
-    if number > 255 {
-        return StationId(255);
-    }
-    StationId(number as u8)
-}
-
-// The row of a train, where it can be one.
-fn row(train: u32, seats: u32, stops: u32, first: u32, stations: u8) -> Option<Row> {
-    if seats > 400 || stops > 30 || first >= u32::from(stations) {
-        return None;
-    }
-    Row::new(
-        Train(train),
-        seats as u16,
-        stops as u8,
-        StationId(first as u8),
-    )
 }
 
 impl Player {

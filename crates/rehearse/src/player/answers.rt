@@ -1,6 +1,5 @@
 // What is answered to a line of the script.
 use super::Player;
-use super::row;
 use giving::ids::StationId;
 use giving::message::Body;
 use giving::refusal::Refusal;
@@ -8,6 +7,7 @@ use ledger::input::Outcome;
 use pieces::names::Train;
 use script::show::delivery;
 use script::show::refused;
+use script::values::row;
 use state::record::Record;
 use std::alloc::AllocError;
 use std::alloc::Global;
