@@ -6,4 +6,4 @@ use Rattle.pieces.proofs.memory.open_at.Goals as goal
 pub returns : goal.returns
 returns c =
     let i = c.args.place * 400 in
-    part_anew c.args.all.now (seated c.args.count c.args.word) _ c.args.place (i + 400 - i) (omega arith) c.seat-all.ensures
+    part_anew c.args.all.now (seated c.args.count c.args.word) _ c.args.place (i + 400 - i) (omega arith) c.seat_all.ensures

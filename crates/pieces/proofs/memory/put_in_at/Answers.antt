@@ -7,4 +7,4 @@ pub returns : goal.returns
 returns c =
     let i = c.args.place * 400 in
     part_edit (λ (w : ℕ). plus w c.args.trip.from.0 c.args.trip.to.0) c.args.all.now _ i 400 (i + 400 - i) c.args.seat.0 (omega arith) (omega arith) (omega arith)
-    c.put-in.ensures
+    c.put_in.ensures

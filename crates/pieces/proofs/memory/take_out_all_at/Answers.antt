@@ -5,15 +5,15 @@ use Rattle.pieces.specs.declared.names.Seat.{Seat}
 use Rattle.std.proofs.ByRecursion.{All-get_or}
 use Rattle.std.proofs.lemmas.List.{drop_more, drop_all}
 
-pub take-out-at-requires : goal.take-out-at-requires
-take-out-at-requires c = (c.loop-seat.invariant.0, (omega arith, All-get_or (λ (s : Seat). s.0 < 400) c.args.seats.now c.loop-seat.seat-index _ (omega arith) c.requires.1.1))
+pub take_out_at-requires : goal.take_out_at-requires
+take_out_at-requires c = (c.loop-seat.invariant.0, (omega arith, All-get_or (λ (s : Seat). s.0 < 400) c.args.seats.now c.loop-seat.seat-index _ (omega arith) c.requires.1.1))
 
 pub loop-seat-preserved : goal.loop-seat-preserved
 loop-seat-preserved c =
     let a = c.args.trip.from.0 in
     let b = c.args.trip.to.0 in (
-      ap length c.take-out-at.ensures ∙ length-set c.loop-seat.all _ _ ∙ c.loop-seat.invariant.0,
-      ap (λ ws. without_all ws c.args.place (drop (c.loop-seat.seat-index + 1) c.args.seats.now) a b) c.take-out-at.ensures
+      ap length c.take_out_at.ensures ∙ length-set c.loop-seat.all _ _ ∙ c.loop-seat.invariant.0,
+      ap (λ ws. without_all ws c.args.place (drop (c.loop-seat.seat-index + 1) c.args.seats.now) a b) c.take_out_at.ensures
           ∙ ap (λ ss. without_all c.loop-seat.all c.args.place ss a b) (sym (drop_more c.args.seats.now c.loop-seat.seat-index (record { 0 = 0 }) (omega arith)))
           ∙ c.loop-seat.invariant.1,
     )

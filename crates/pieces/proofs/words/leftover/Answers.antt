@@ -5,6 +5,6 @@ use Rattle.pieces.proofs.words.leftover.Goals as goal
 pub returns : goal.returns
 returns c = (
   c.if-not-covers.ensures.means.0 refl,
-  spare_is _ _ _ _ _ c.run-start.ensures.value c.run-end.ensures.value,
-  (c.run-start.result, c.run-end.result, c.run-start.ensures.run, c.run-end.ensures.run, refl),
+  spare_is _ _ _ _ _ c.run_start.ensures.value c.run_end.ensures.value,
+  (c.run_start.result, c.run_end.result, c.run_start.ensures.run, c.run_end.ensures.run, refl),
 )

@@ -4,8 +4,8 @@ use Rattle.pieces.specs.Stretches.{span}
 use Rattle.pieces.proofs.Bitwise.{span_each}
 use Rattle.pieces.proofs.words.mask.Goals as goal
 
-pub overflow-sub-result : goal.overflow-sub-result
-overflow-sub-result c =
+pub overflow_sub-result : goal.overflow_sub-result
+overflow_sub-result c =
     let a = c.args.trip.from.0 in
     let b = c.args.trip.to.0 in
     omega (arith, one_shl a 64 (omega arith), one_shl b 64 (omega arith), pow_below a b (omega arith))

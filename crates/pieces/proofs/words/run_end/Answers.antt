@@ -4,5 +4,5 @@ use Rattle.pieces.proofs.words.run_end.Goals as goal
 
 pub returns : goal.returns
 returns c =
-    let r = end_run _ _ c.trailing-ones-run.result _ (omega arith) (omega arith) c.trailing-ones-run.ensures c.min.ensures in
+    let r = end_run _ _ c.trailing_ones-run.result _ (omega arith) (omega arith) c.trailing_ones-run.ensures c.min.ensures in
     record { value = r.0; run = r.1 }
