@@ -6,5 +6,5 @@ use Rattle.giving.proofs.channels.Channels.new.Goals as goal
 pub loop-k-preserved : goal.loop-k-preserved
 loop-k-preserved c = search (rules, map_push, replicate_more)
 
-pub invariant-of-result : goal.invariant-of-result
-invariant-of-result c = search (rules, waiting_none)
+pub invariant_of-result : goal.invariant_of-result
+invariant_of-result c = search (rules, waiting_none)

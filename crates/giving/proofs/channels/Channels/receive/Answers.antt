@@ -4,11 +4,11 @@ use Rattle.giving.proofs.Mapped.{mapped}
 use Rattle.giving.proofs.Waiting.{waiting_set, waiting_within}
 use Rattle.giving.proofs.channels.Channels.receive.Goals as goal
 
-pub index-mut-requires : goal.index-mut-requires
-index-mut-requires c = search (rules, length-map)
+pub index_mut-requires : goal.index_mut-requires
+index_mut-requires c = search (rules, length-map)
 
-pub invariant-of-self : goal.invariant-of-self
-invariant-of-self c = search (rules, mapped, waiting_set, waiting_within)
+pub invariant_of-self : goal.invariant_of-self
+invariant_of-self c = search (rules, mapped, waiting_set, waiting_within)
 
 pub returns : goal.returns
 returns c = search (rules, mapped)
