@@ -15,7 +15,7 @@ use Rattle.pieces.specs.declared.names.Train.{Train}
 use Rattle.pieces.specs.declared.trip.Trip.{Trip}
 use Rattle.std.proofs.lemmas.List.{append-nil, take_at}
 use Rattle.std.proofs.lemmas.Bool.{and_from, and_parts, cases_Bool, cases_eq, cases_lt, cond-true, cond-false, lt-ltb, ltb-true}
-use Rattle.std.specs.List.{AllByRecursion as All}
+use Rattle.std.specs.List.{AllByRecursion}
 
 -- ---- one seat
 
@@ -193,7 +193,7 @@ put_back_all ws k ss a b h c = undone k a b ss ws h c
 pub party_seats : (z : Train) (t : Trip) (ss : List Seat) → length ss ≤ 8 → seats_of (party_of z t ss) ≡ ss
 party_seats z t ss h = take_at ss (replicate (8 - length ss) unused) (length ss) refl
 
-pub below_all : (n : ℕ) (ss : List Seat) → n ≤ 400 → below n ss ≡ true → All (λ (s : Seat). s.0 < 400) ss
+pub below_all : (n : ℕ) (ss : List Seat) → n ≤ 400 → below n ss ≡ true → AllByRecursion (λ (s : Seat). s.0 < 400) ss
 below_all n [] h e = tt
 below_all n (s ∷ ss) h e =
     let p = and_parts (ltb s.0 n) (below n ss) e in

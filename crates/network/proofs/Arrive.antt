@@ -27,7 +27,7 @@ use Rattle.state.specs.declared.record.Record.TheVariants.{Taken}
 use Rattle.std.proofs.ByRecursion.{All-append}
 use Rattle.std.proofs.lemmas.List.Sums.{fold_push}
 use Rattle.std.proofs.lemmas.Bool.{cases_eq, cases_lt, cases_Bool, and_from, eq-eqb, ne_eqb, lt-ltb, true≢false, false≢true}
-use Rattle.std.specs.List.{AllByRecursion as All}
+use Rattle.std.specs.List.{AllByRecursion}
 use Rattle.timetable.specs.Rows.{Table, listed}
 
 -- ---- lists
@@ -41,7 +41,7 @@ drop_cons : (l : List Piece) (k : ℕ) (q : Piece) (qs : List Piece) → drop k 
 drop_cons l k q qs e =
     (omega (arith, ap length e, length-drop k l), ap (λ (i : ℕ). get_or l i blank) (omega arith) ∙ sym (get_or-drop k l 0 blank) ∙ ap (λ m. get_or m 0 blank) e, sym (drop-drop 1 k l) ∙ ap (drop 1) e)
 
-all_right : {A : Type 0} (P : A → Type 0) (xs ys : List A) → All P (xs ++ ys) → All P ys
+all_right : {A : Type 0} (P : A → Type 0) (xs ys : List A) → AllByRecursion P (xs ++ ys) → AllByRecursion P ys
 all_right P [] ys h = h
 all_right P (x ∷ xs) ys h = all_right P xs ys h.1
 

@@ -25,7 +25,7 @@ use Rattle.pieces.specs.declared.names.Train.{Train}
 use Rattle.pieces.specs.declared.piece.Piece.{Piece}
 use Rattle.std.proofs.ByRecursion.{All-set, All-push, All-append, All-drop, All-map, All-weaker}
 use Rattle.std.proofs.lemmas.Bool.{cases_Bool, ne_eqb, le-ltb, or_left, true≢false, false≢true}
-use Rattle.std.specs.List.{AllByRecursion as All}
+use Rattle.std.specs.List.{AllByRecursion}
 use Rattle.timetable.specs.Rows.{Table, listed}
 use Rattle.timetable.specs.declared.row.Row.{Row}
 
@@ -90,10 +90,10 @@ real_forgotten tb z (Stands p) h = go (eqb z.0 p.train.0)
     go true = tt
     go false = h
 
-pub real_next : (tb : Table) (x : State) (e : Record) → fits tb x e ≡ true → All (Real tb) x.tickets → All (Real tb) (apply tb x e).tickets
+pub real_next : (tb : Table) (x : State) (e : Record) → fits tb x e ≡ true → AllByRecursion (Real tb) x.tickets → AllByRecursion (Real tb) (apply tb x e).tickets
 real_next tb x (Opened t) f h = go (tb t.0)
   where
-    go : (o : Option Row) → All (Real tb) (opened o t x).tickets
+    go : (o : Option Row) → AllByRecursion (Real tb) (opened o t x).tickets
     go None = h
     go (Some r) = h
 real_next tb x (Closed t) f h = All-drop (Real tb) _ (map (forgotten t) x.tickets) (All-map (Real tb) (forgotten t) x.tickets (All-weaker (Real tb) (λ y. Real tb (forgotten t y)) (real_forgotten tb t) x.tickets h))
@@ -103,7 +103,7 @@ real_next tb x (Given to n p) f h = h
 real_next tb x (Taken from n p) f h = rw (received_tickets tb x p) h
 real_next tb x (Heard from n) f h = h
 
-pub real_at : (tb : Table) (xs : List Sale) (a : ℕ) (p : Piece) → All (Real tb) xs → get_or xs a Returned ≡ Stands p → listed (tb p.train.0) p ≡ true
+pub real_at : (tb : Table) (xs : List Sale) (a : ℕ) (p : Piece) → AllByRecursion (Real tb) xs → get_or xs a Returned ≡ Stands p → listed (tb p.train.0) p ≡ true
 real_at tb [] a p h e = let z : ◌≡◌ {A = ℕ} 0 1 = cc in absurd (omega arith)
 real_at tb (y ∷ xs) zero p h e = rw e at h.0
 real_at tb (y ∷ xs) (suc a) p h e = real_at tb xs a p h.1 e
@@ -122,14 +122,14 @@ away_next tb x (Given to n p) f = rw (ne_eqb x.me to.0 (fits_given tb x to n p f
 away_next tb x (Taken from n p) f = refl
 away_next tb x (Heard from n) f = refl
 
-sent_next : (tb : Table) (x : State) (e : Record) (k : ℕ) → fits tb x e ≡ true → All (Lists tb) (given_of k e)
+sent_next : (tb : Table) (x : State) (e : Record) (k : ℕ) → fits tb x e ≡ true → AllByRecursion (Lists tb) (given_of k e)
 sent_next tb x (Opened t) k f = tt
 sent_next tb x (Closed t) k f = tt
 sent_next tb x (Sold n p) k f = tt
 sent_next tb x (Undone n) k f = tt
 sent_next tb x (Given to n p) k f = go (eqb k to.0)
   where
-    go : (b : Bool) → All (Lists tb) (cond b (p ∷ []) [])
+    go : (b : Bool) → AllByRecursion (Lists tb) (cond b (p ∷ []) [])
     go true = ((fits_given tb x to n p f).listed, tt)
     go false = tt
 sent_next tb x (Taken from n p) k f = tt
@@ -144,9 +144,9 @@ pub record Fine (n : ℕ) (tb : Table) (i : ℕ) (x : State) (js : List Record) 
   pub line : (k : ℕ) → Line (channel x k) (given_to k js) (taken_from k js)
   pub most : (t : Train) (s u : ℕ) (l : s < 400) → stock n tb t s u l x + sum_to n (λ k. count_in t s u (given_to k js)) ≤ due n tb t s u l x + sum_to n (λ k. count_in t s u (taken_from k js))
   pub even : (t : Train) (s u : ℕ) (l : s < 400) → was_closed x t ≡ false → stock n tb t s u l x + sum_to n (λ k. count_in t s u (given_to k js)) ≡ due n tb t s u l x + sum_to n (λ k. count_in t s u (taken_from k js))
-  pub real : All (Real tb) x.tickets
+  pub real : AllByRecursion (Real tb) x.tickets
   pub away : given_to i js ≡ []
-  pub sent : (k : ℕ) → All (Lists tb) (given_to k js)
+  pub sent : (k : ℕ) → AllByRecursion (Lists tb) (given_to k js)
 
 module _ (n : ℕ) (tb : Table) (i : ℕ) (x : State) (js : List Record) (e : Record) where
   given_more : (t : Train) (s u : ℕ) → sum_to n (λ k. count_in t s u (given_to k (js ++ e ∷ []))) ≡ sum_to n (λ k. count_in t s u (given_to k js)) + sum_to n (λ k. count_in t s u (given_of k e))

@@ -29,7 +29,7 @@ use Rattle.pieces.specs.declared.piece.Piece.{Piece}
 use Rattle.std.proofs.ByRecursion.{All-weaker, All-push}
 use Rattle.std.proofs.lemmas.List.Sums.{fold_push}
 use Rattle.std.proofs.lemmas.Bool.{cases_eq, cases_lt, eq-eqb, ne_eqb}
-use Rattle.std.specs.List.{AllByRecursion as All}
+use Rattle.std.specs.List.{AllByRecursion}
 use Rattle.timetable.specs.Rows.{Table}
 use Rattle.timetable.specs.declared.row.Row.{Row}
 
@@ -52,7 +52,7 @@ pub record Ok (n : ℕ) (tb : Table) (w : World) : Type 0 where
   pub fine : (k : ℕ) → Fine n tb k (state n tb w k) (journal w k)
   pub link : (i j : ℕ) → Begins (taken_from i (journal w j)) (given_to j (journal w i))
   pub heard : (i j : ℕ) → (channel (state n tb w i) j).heard ≤ length (taken_from i (journal w j))
-  pub said : All (Said w.journals) w.said
+  pub said : AllByRecursion (Said w.journals) w.said
 
 -- ---- what is due at first is due to one station
 

@@ -4,7 +4,7 @@ ghost use Rattle.pieces.specs.Memory.{word_at, without, together, without_all, t
 ghost use Rattle.pieces.specs.Search.{NoneCovers, Lowest};
 ghost use Rattle.pieces.specs.Stretches.{holds, covered};
 ghost use Rattle.pieces.specs.declared.names.Seat.{Seat as Chair};
-ghost use Rattle.std.specs.List.{AllByRecursion as All};
+ghost use Rattle.std.specs.List.{AllByRecursion};
 
 use crate::names::{Seat, Stop};
 use crate::seats::{lowest, put_in, seat_all, take_out};
@@ -35,7 +35,7 @@ pub fn put_in_at(all: &mut [u64], place: usize, seat: Seat, trip: Trip)
 
 // Takes the trip out of several seats of the train at a place, one after the other.
 pub fn take_out_all_at(all: &mut [u64], place: usize, seats: &[Seat], trip: Trip)
-    requires { (length all.old ≡ 25600) × ((place < 64) × (All (λ (s : Chair). s.0 < 400) seats.now)) }
+    requires { (length all.old ≡ 25600) × ((place < 64) × (AllByRecursion (λ (s : Chair). s.0 < 400) seats.now)) }
     ensures { all.new ≡ without_all all.old place seats.now trip.from.0 trip.to.0 }
 {
     for seat in seats.iter() {
@@ -45,7 +45,7 @@ pub fn take_out_all_at(all: &mut [u64], place: usize, seats: &[Seat], trip: Trip
 
 // Puts the trip into several seats of the train at a place.
 pub fn put_in_all_at(all: &mut [u64], place: usize, seats: &[Seat], trip: Trip)
-    requires { (length all.old ≡ 25600) × ((place < 64) × (All (λ (s : Chair). s.0 < 400) seats.now)) }
+    requires { (length all.old ≡ 25600) × ((place < 64) × (AllByRecursion (λ (s : Chair). s.0 < 400) seats.now)) }
     ensures { all.new ≡ together_all all.old place seats.now trip.from.0 trip.to.0 }
 {
     for seat in seats.iter() {

@@ -1,5 +1,8 @@
 -- Rows that say the same are the same.
-use Rattle.std.proofs.Common.{◌≡◌, ℕ, ◌≤◌, Bool, true, Some, None, Option, refl, ap, arith}
+use Rattle.std.proofs.Common.{◌≡◌, ℕ, ◌≤◌, Bool, true, false, cond, Some, None, Option, Ok, Err, Result, OnOk, ◌==◌, refl, ap, arith}
+use Rattle.std.proofs.lemmas.Bool.{true≢false}
+use Rattle.std.specs.Ordering.{is_eq, nat_cmp}
+use Rattle.std.specs.Result.{is_err}
 use mathlib.Core.Path.{fun_ext}
 use mathlib.Core.HLevel.{is_prop→PathP}
 use native.Mathlib.Bridge.{le_prop}
@@ -32,3 +35,12 @@ same_row a b h =
 -- to put a row in that is there changes nothing
 pub put_there : (s : Table) (r : Row) → s r.train.0 ≡ Some r → s ≡ put s r
 put_there s r h = fun_ext (λ k. grind (arith, nat_tests))
+
+-- what is promised of a value, where there is one
+pub on_ok : {T E P : Type 0} (r : Result T E) → is_err r ≡ false → OnOk r P → P
+on_ok (Ok x) h p = p
+on_ok (Err e) h p = absurd (true≢false h)
+
+-- the order of trains finds the train of a number
+pub found_by_number : {X : Type 0} (k n : ℕ) (a b : X) → cond (is_eq (nat_cmp k n)) a b ≡ cond (n == k) a b
+found_by_number k n a b = grind (arith, nat_tests)

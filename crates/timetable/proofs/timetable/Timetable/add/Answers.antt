@@ -1,22 +1,15 @@
 use Rattle.std.proofs.Common.{Some, sym, ap, ◌∙◌, rules}
 use mathlib.Core.Path.{fun_ext}
 use Rattle.timetable.specs.Tables.{table}
-use Rattle.timetable.proofs.Same.{same_row, put_there}
-use Rattle.std.proofs.lemmas.Map.Invariant.{btree-map-from-valid, valid-from-btree-map}
-use Rattle.timetable.specs.Keys.{by_number}
+use Rattle.timetable.proofs.Same.{found_by_number, on_ok, same_row, put_there}
 use Rattle.timetable.proofs.timetable.Timetable.add.Goals as goal
 
-pub returns-then-is-same : goal.returns-then-is-same
-returns-then-is-same c =
-    let same = same_row c.in-Some.there c.args.row (sym c.is-same.ensures ∙ c.if-is-same.true) in
+pub returns-then-is_same : goal.returns-then-is_same
+returns-then-is_same c =
+    let same = same_row c.in-Some.there c.args.row (sym c.is_same.ensures ∙ c.if-is_same.true) in
     (search rules, put_there (table c.args.self.now) c.args.row (sym c.row.ensures ∙ c.in-Some.is ∙ ap Some same))
-
-pub invariant-of-self : goal.invariant-of-self
-invariant-of-self c =
-    let u = btree-map-from-valid by_number c.args.self.now.rows c.args.self.now.lawful in
-    (valid-from-btree-map by_number c.insert.new.self (search rules), tt)
 
 pub returns : goal.returns
 returns c =
-    let u = btree-map-from-valid by_number c.args.self.now.rows c.args.self.now.lawful in
-    (search rules, fun_ext (λ k. search rules))
+    let wrote = on_ok c.insert.result (sym c.is_err.ensures.value ∙ c.if-is_err.false) c.insert.ensures.updates in
+    (search rules, fun_ext (λ k. wrote.0 (record { 0 = k }) ∙ found_by_number c.args.row.train.0 k (Some c.args.row) (table c.args.self.now k)))
