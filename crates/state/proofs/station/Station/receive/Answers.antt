@@ -5,9 +5,9 @@ use Rattle.timetable.specs.Tables.{table}
 use Rattle.state.proofs.Opens.{listed_seat, open_after}
 use Rattle.state.proofs.station.Station.receive.Goals as goal
 
-pub put-back-requires : goal.put-back-requires
-put-back-requires c = (
+pub put_back-requires : goal.put_back-requires
+put_back-requires c = (
   listed_seat (table c.args.table.now c.args.piece.train.0) c.args.piece c.requires.listed,
-  ap (λ (s : State). is_open s c.args.piece.train) c.open-unless-open.ensures
+  ap (λ (s : State). is_open s c.args.piece.train) c.open_unless_open.ensures
       ∙ open_after (table c.args.table.now c.args.piece.train.0) c.args.piece (view c.args.self.now) c.requires.listed (search rules),
 )
