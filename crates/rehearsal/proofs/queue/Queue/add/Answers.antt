@@ -8,7 +8,7 @@ loop-at-init c h = counted_none (deque_items c.args.self.now.places) c.args.from
 
 pub loop-at-preserved : goal.loop-at-preserved
 loop-at-preserved c h =
-    counted_more (deque_items c.args.self.now.places) (deque_items c.loop-at.self.places) (deque_items c.push-back.new.self) c.args.from c.loop-at.at c.loop-at.auto.at (c.loop-at.invariant h) c.in-ok-push-back.ensures.items
+    counted_more (deque_items c.args.self.now.places) (deque_items c.loop-at.self.places) (deque_items c.push_back.new.self) c.args.from c.loop-at.at c.loop-at.auto.at (c.loop-at.invariant h) c.in_ok-push_back.ensures.items
 
 pub returns : goal.returns
 returns c h =

@@ -5,8 +5,8 @@ use Rattle.rehearsal.proofs.world.World.count_way.Goals as goal
 
 pub returns : goal.returns
 returns c =
-    c.count-waiting.ensures
+    c.count_waiting.ensures
     ∙ ap (count_in c.args.train c.args.seat.0 c.args.stop.0)
     (way_is (vec_items c.args.self.now.posts) c.args.from.0 c.args.to.0 c.index.result.now c.index-2.result.now (omega arith) c.index.ensures (omega arith) c.index-2.ensures
     c.channels-giver.result.now c.channels-taker.result.now c.channels-giver.ensures c.channels-taker.ensures
-    c.taken-from.result c.heard-from.result c.saturating-sub-skip.result c.taken-from.ensures c.heard-from.ensures c.saturating-sub-skip.ensures)
+    c.taken_from.result c.heard_from.result c.saturating_sub-skip.result c.taken_from.ensures c.heard_from.ensures c.saturating_sub-skip.ensures)

@@ -15,11 +15,11 @@ returns-then-place-len c =
 pub perform-outcome-requires : goal.perform-outcome-requires
 perform-outcome-requires c = record {
   there = omega arith;
-  told = subst (λ x. Heeds (vec_items c.args.self.now.said) c.index-message.result.now.to.0 x) (sym c.input-of.ensures) (told_from (vec_items c.args.self.now.said) c.args.at c.index-message.result.now _ (omega arith) c.index-message.ensures);
+  told = subst (λ x. Heeds (vec_items c.args.self.now.said) c.index-message.result.now.to.0 x) (sym c.input_of.ensures) (told_from (vec_items c.args.self.now.said) c.args.at c.index-message.result.now _ (omega arith) c.index-message.ensures);
 }
 
 pub returns : goal.returns
 returns c = record {
   steps = c.perform-outcome.ensures.steps;
-  came = ((omega arith, c.index-message.ensures, omega arith), subst (λ x. Asked c.args.self.now c.index-message.result.now.to.0 x c.perform-outcome.new.self c.perform-outcome.result) c.input-of.ensures c.perform-outcome.ensures.came);
+  came = ((omega arith, c.index-message.ensures, omega arith), subst (λ x. Asked c.args.self.now c.index-message.result.now.to.0 x c.perform-outcome.new.self c.perform-outcome.result) c.input_of.ensures c.perform-outcome.ensures.came);
 }

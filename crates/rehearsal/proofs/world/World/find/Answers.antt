@@ -13,7 +13,7 @@ loop-k-init c s n = c.new-found.ensures.items ∙ found_none [] (spots_of c.args
 
 pub loop-k-preserved : goal.loop-k-preserved
 loop-k-preserved c s n =
-    found_more [] _ _ c.loop-k.k (spots_of c.args.self.now c.args.train c.args.seat.0 c.args.stop.0) (c.loop-k.invariant s n) (c.in-ok-spots.ensures s n)
+    found_more [] _ _ c.loop-k.k (spots_of c.args.self.now c.args.train c.args.seat.0 c.args.stop.0) (c.loop-k.invariant s n) (c.in_ok-spots.ensures s n)
 
 pub returns : goal.returns
 returns c =

@@ -7,10 +7,10 @@ use Rattle.rehearsal.specs.Lives.{shown, nowhere}
 use Rattle.timetable.specs.Tables.{table}
 use Rattle.rehearsal.proofs.world.World.open_at.Goals as goal
 
-pub invariant-of-self : goal.invariant-of-self
-invariant-of-self c =
+pub invariant_of-self : goal.invariant_of-self
+invariant_of-self c =
     let b : c.args.place < length (vec_items c.args.self.now.posts) = omega arith in
-    (∥∥₁_map c.args.self.now.lives (λ l. opened_lives _ _ _ l c.args.place c.index-mut.result.now c.open.new.self b c.index-mut.ensures.value c.open.result c.open.ensures.written c.args.row (table c.open.new.trains) c.open.ensures.listed c.open.ensures.state c.open.ensures.answer), (c.args.self.now.few, tt))
+    record { lives = ∥∥₁_map c.args.self.now.lives (λ l. opened_lives _ _ _ l c.args.place c.index_mut.result.now c.open.new.self b c.index_mut.ensures.value c.open.result c.open.ensures.written c.args.row (table c.open.new.trains) c.open.ensures.listed c.open.ensures.state c.open.ensures.answer); few = c.args.self.now.few }
 
 pub returns : goal.returns
 returns c =
@@ -19,8 +19,8 @@ returns c =
     let tb = table c.args.self.now.trains in
     let ub = table c.open.new.trains in
     let i = c.args.place in
-    let p = c.index-mut.result.now in
-    let e = c.index-mut.ensures.value in
+    let p = c.index_mut.result.now in
+    let e = c.index_mut.ensures.value in
     let q = c.open.new.self in
     let o = c.open.result in
     record {

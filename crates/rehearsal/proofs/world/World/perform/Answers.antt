@@ -6,18 +6,18 @@ use Rattle.rehearsal.proofs.Living.{called_steps, called_lives, here_is, at_post
 use Rattle.timetable.specs.Tables.{table}
 use Rattle.rehearsal.proofs.world.World.perform.Goals as goal
 
-pub invariant-of-self : goal.invariant-of-self
-invariant-of-self c =
+pub invariant_of-self : goal.invariant_of-self
+invariant_of-self c =
     let b : c.args.place < length (vec_items c.args.self.now.posts) = omega arith in
-    (∥∥₁_map c.args.self.now.lives (λ l. called_lives _ _ _ l c.args.place c.index-mut.result.now c.ask.new.self b c.index-mut.ensures.value c.ask.result c.ask.ensures.written c.args.input _ c.ask.ensures.state c.ask.ensures.said c.requires.told c.ask.ensures.answer), (c.args.self.now.few, tt))
+    record { lives = ∥∥₁_map c.args.self.now.lives (λ l. called_lives _ _ _ l c.args.place c.index_mut.result.now c.ask.new.self b c.index_mut.ensures.value c.ask.result c.ask.ensures.written c.args.input _ c.ask.ensures.state c.ask.ensures.said c.requires.told c.ask.ensures.answer); few = c.args.self.now.few }
 
 pub returns : goal.returns
 returns c =
     let b : c.args.place < length (vec_items c.args.self.now.posts) = omega arith in
     let ps = vec_items c.args.self.now.posts in
     let tb = table c.args.self.now.trains in
-    let p = c.index-mut.result.now in
-    let e = c.index-mut.ensures.value in
+    let p = c.index_mut.result.now in
+    let e = c.index_mut.ensures.value in
     let q = c.ask.new.self in
     let o = c.ask.result in
     let h = here_is ps c.args.place p b e in

@@ -5,19 +5,19 @@ use Rattle.rehearsal.proofs.Living.{here_is, pushed, said_or_not, remind_is, rem
 use Rattle.rehearsal.specs.Lives.{shown}
 use Rattle.rehearsal.proofs.world.World.remind.Goals as goal
 
-pub returns-in-default : goal.returns-in-default
-returns-in-default c = record { trains = refl; posts = refl; said = sym (append-nil _); steps = ∣ none ∣₁ }
+pub returns-in_default : goal.returns-in_default
+returns-in_default c = record { trains = refl; posts = refl; said = sym (append-nil _); steps = ∣ none ∣₁ }
 
-pub invariant-of-self : goal.invariant-of-self
-invariant-of-self c =
+pub invariant_of-self : goal.invariant_of-self
+invariant_of-self c =
     let b : c.args.who.0 < length (vec_items c.args.self.now.posts) = omega (arith, c.requires.there) in
-    let (l, n, q) = c.in-Some.ensures in (
-      ∥∥₁_map c.args.self.now.lives
+    let (l, n, q) = c.in-Some.ensures in record {
+      lives = ∥∥₁_map c.args.self.now.lives
           (λ v. said_lives _ _ _ v _
           (pushed _ _ _ _ _ _ (is_ok c.push.result) c.push.ensures.items
-          (reminds_step _ _ _ v c.args.who.0 c.args.to c.args.place c.index.result.now c.in-Some.next.0 c.in-Some.next.1 b c.index.ensures l n q))),
-      (c.args.self.now.few, tt),
-    )
+          (reminds_step _ _ _ v c.args.who.0 c.args.to c.args.place c.index.result.now c.in-Some.next.0 c.in-Some.next.1 b c.index.ensures l n q)));
+      few = c.args.self.now.few;
+    }
 
 pub returns : goal.returns
 returns c =
@@ -27,7 +27,7 @@ returns c =
     record {
       trains = refl;
       posts = refl;
-      said = said_or_not _ _ _ _ (is_ok c.push.result) c.is-ok.result c.push.ensures.items c.is-ok.ensures.value (remind_is ps c.args.who.0 c.index.result.now b c.index.ensures c.args.to c.args.place c.in-Some.next.0 c.in-Some.next.1 n q);
+      said = said_or_not _ _ _ _ (is_ok c.push.result) c.is_ok.result c.push.ensures.items c.is_ok.ensures.value (remind_is ps c.args.who.0 c.index.result.now b c.index.ensures c.args.to c.args.place c.in-Some.next.0 c.in-Some.next.1 n q);
       steps = ∥∥₁_map c.args.self.now.lives
           (λ v. pushed _ _ _ _ _ _ (is_ok c.push.result) c.push.ensures.items
           (reminds_step _ _ _ v c.args.who.0 c.args.to c.args.place c.index.result.now c.in-Some.next.0 c.in-Some.next.1 b c.index.ensures l n q));

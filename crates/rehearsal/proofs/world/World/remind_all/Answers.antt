@@ -16,7 +16,7 @@ remind-requires c =
     let here = here_is (vec_items c.args.self.now.posts) c.args.who.0 c.index.result.now (omega (arith, c.requires)) c.index.ensures in
     record {
       there = subst (λ ps. c.args.who.0 < vec_len ps) (sym f.posts) c.requires;
-      waits = omega (arith, ap (λ s. length (channel s c.args.to.0).waiting) (same ∙ here), c.waiting-for-count.ensures, c.loop-place-test.true);
+      waits = omega (arith, ap (λ s. length (channel s c.args.to.0).waiting) (same ∙ here), c.waiting_for-count.ensures, c.loop-place-test.true);
     }
 
 pub loop-place-preserved : goal.loop-place-preserved
@@ -25,4 +25,4 @@ loop-place-preserved c = reminded c.args.self.now c.loop-place.self c.remind.new
 pub returns : goal.returns
 returns c =
     let here = here_is (vec_items c.args.self.now.posts) c.args.who.0 c.index.result.now (omega (arith, c.requires)) c.index.ensures in
-    spoken_as _ _ _ _ (ap (reminders_to (state_of c.args.self.now c.args.who.0) c.args.who.0 c.args.to.0) (omega (arith, ap (λ s. length (channel s c.args.to.0).waiting) here, c.waiting-for-count.ensures, c.loop-place-test.false, c.loop-place.auto.place-end))) c.loop-place.invariant
+    spoken_as _ _ _ _ (ap (reminders_to (state_of c.args.self.now c.args.who.0) c.args.who.0 c.args.to.0) (omega (arith, ap (λ s. length (channel s c.args.to.0).waiting) here, c.waiting_for-count.ensures, c.loop-place-test.false, c.loop-place.auto.place-end))) c.loop-place.invariant

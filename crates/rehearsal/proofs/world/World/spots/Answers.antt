@@ -6,7 +6,7 @@ use Rattle.rehearsal.proofs.Living.{here_is}
 use Rattle.rehearsal.specs.Seen.{state_of}
 use Rattle.std.proofs.lemmas.Result.{IfOk-weaker}
 use Rattle.rehearsal.proofs.world.World.spots.Goals as goal
-use Rattle.rehearsal.proofs.world.World.spots.Goals.{then-holds-stretch+in-ok-push, else-holds-stretch}
+use Rattle.rehearsal.proofs.world.World.spots.Goals.{then-holds_stretch+in_ok-push, else-holds_stretch}
 
 pub returns : goal.returns
 returns c =
@@ -18,13 +18,13 @@ returns c =
     let u = c.args.stop.0 in
     let b : i < length ps = omega arith in
     let xs = vec_items c.args.found.now in
-    let held : s < 400 → c.holds-stretch.result ≡ holding t s u (state_of w i) = λ l. c.holds-stretch.ensures ∙ held_at _ ps _ w.lives t s u l i c.index.result.now b c.index.ensures in
-    let first : s < 400 → vec_items c.if-holds-stretch.found ≡ xs ++ cond (holding t s u (state_of w i)) (Held c.args.who ∷ []) [] =
-    λ l. elim c.if-holds-stretch.branch [
-      | then-holds-stretch+in-ok-push v ↦ found_then _ xs _ _ (sym (held l) ∙ v.if-holds-stretch.true) (ap (λ x. vec_items x) v.found-is ∙ v.in-ok-push.ensures.items)
-      | else-holds-stretch v ↦ found_else _ xs _ _ (sym (held l) ∙ v.if-holds-stretch.false) (ap (λ x. vec_items x) v.found-is)
+    let held : s < 400 → c.holds_stretch.result ≡ holding t s u (state_of w i) = λ l. c.holds_stretch.ensures ∙ held_at _ ps _ w.lives t s u l i c.index.result.now b c.index.ensures in
+    let first : s < 400 → vec_items c.if-holds_stretch.found ≡ xs ++ cond (holding t s u (state_of w i)) (Held c.args.who ∷ []) [] =
+    λ l. elim c.if-holds_stretch.branch [
+      | then-holds_stretch+in_ok-push v ↦ found_then _ xs _ _ (sym (held l) ∙ v.if-holds_stretch.true) (ap (λ x. vec_items x) v.found-is ∙ v.in_ok-push.ensures.items)
+      | else-holds_stretch v ↦ found_else _ xs _ _ (sym (held l) ∙ v.if-holds_stretch.false) (ap (λ x. vec_items x) v.found-is)
     ] in
-    let second : vec_items c.push-many.new.found ≡ vec_items c.if-holds-stretch.found ++ replicate (count_in t s u (standing (state_of w i).tickets)) (Sold c.args.who) =
-    c.in-ok-push-many.ensures
-    ∙ ap (λ (n : ℕ). vec_items c.if-holds-stretch.found ++ replicate n (Sold c.args.who)) (c.count-sold.ensures ∙ ap (λ x. count_in t s u (standing x.tickets)) (sym (here_is ps i c.index.result.now b c.index.ensures))) in
+    let second : vec_items c.push_many.new.found ≡ vec_items c.if-holds_stretch.found ++ replicate (count_in t s u (standing (state_of w i).tickets)) (Sold c.args.who) =
+    c.in_ok-push_many.ensures
+    ∙ ap (λ (n : ℕ). vec_items c.if-holds_stretch.found ++ replicate n (Sold c.args.who)) (c.count_sold.ensures ∙ ap (λ x. count_in t s u (standing x.tickets)) (sym (here_is ps i c.index.result.now b c.index.ensures))) in
     IfOk-weaker c.ways.result _ _ (λ _ h l n. found_three xs _ _ _ _ _ _ (first l) second (h n)) c.ways.ensures

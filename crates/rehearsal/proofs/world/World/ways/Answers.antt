@@ -12,7 +12,7 @@ pub loop-k-preserved : goal.loop-k-preserved
 loop-k-preserved c =
     let k = c.loop-k.k in
     found_more _ _ _ k (way_to c.args.self.now c.args.train c.args.seat.0 c.args.stop.0 c.args.who.0) c.loop-k.invariant
-    (c.in-ok-push-many.ensures ∙ ap (λ (n : ℕ). vec_items c.loop-k.found ++ replicate n (Way c.args.who (record { 0 = k }))) c.count-way.ensures)
+    (c.in_ok-push_many.ensures ∙ ap (λ (n : ℕ). vec_items c.loop-k.found ++ replicate n (Way c.args.who (record { 0 = k }))) c.count_way.ensures)
 
 pub returns : goal.returns
 returns c h =

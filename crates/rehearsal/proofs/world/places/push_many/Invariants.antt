@@ -2,4 +2,4 @@ use Rattle.std.proofs.Common.{◌≡◌, ◌++◌, replicate, vec_items}
 use Rattle.rehearsal.proofs.world.places.push_many.Given as goal
 
 abbrev pub invariant-loop-k : goal.invariant-loop-k
-invariant-loop-k l = vec_items l.found ≡ vec_items l.initial.found ++ replicate l.-k l.place
+invariant-loop-k l = vec_items l.found ≡ vec_items l.initial.found ++ replicate l._k l.place
