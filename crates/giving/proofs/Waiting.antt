@@ -1,5 +1,5 @@
 -- How many pieces wait in all channels, where one channel is read or written.
-use Rattle.std.proofs.Common.{◌≡◌, ℕ, zero, suc, ◌+◌, ◌<◌, ◌≤◌, List, [], ◌∷◌, length, set, replicate, ◌∙◌, arith}
+use Rattle.std.proofs.Common.{◌≡◌, ℕ, zero, suc, ◌+◌, ◌<◌, ◌≤◌, List, [], ◌∷◌, length, set, replicate, arith}
 use Rattle.giving.specs.Channels.{Chan, fresh, all_waiting, line}
 
 -- no channel has more than all together

@@ -1,4 +1,6 @@
 // Numbers against loss and doubling: pieces that stations give to each other, until they are heard of.
+#![tactic(auto)]
+
 pub mod channel;
 pub mod channels;
 pub mod ids;

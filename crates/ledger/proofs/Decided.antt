@@ -1,6 +1,6 @@
 -- What is decided may be written.
 -- Assumes nothing.
-use Rattle.std.proofs.Common.{◌≡◌, ℕ, ◌+◌, Bool, true, false, cond, not, ◌&&◌, ◌||◌, eqb, leb, is_some, Some, None, Option, Ordering, Less, Equal, Greater, sym, refl, ap, ◌∙◌, subst, arith}
+use Rattle.std.proofs.Common.{◌≡◌, ℕ, ◌+◌, Bool, true, false, cond, not, ◌&&◌, ◌||◌, eqb, leb, Some, None, Option, Less, Equal, Greater, refl, subst, arith}
 use Rattle.giving.specs.Channels.{Chan, stands, line, roomy, numbered, other, news}
 use Rattle.giving.specs.declared.refusal.Refusal.{Refusal}
 use Rattle.ledger.specs.Decisions.{unless, judged, turned, decided, decided_open, listing, DecidedFits}

@@ -1,4 +1,6 @@
 // What a station decides, by its state alone, and what it does.
+#![tactic(auto)]
+
 pub mod calls;
 pub mod decide;
 pub mod input;

@@ -1,19 +1,16 @@
 -- What is on its way arrives.
 -- Assumes nothing.
-use Rattle.std.proofs.Common.{◌≡◌, ℕ, zero, suc, ◌+◌, ◌-◌, ◌<◌, ◌≤◌, Bool, true, false, cond, not, ◌&&◌, ◌||◌, eqb, ltb, ◌⊎◌, List, [], ◌∷◌, ◌++◌, length, get_or, drop, set, fold, sym, refl, ap, ◌∙◌, subst, ap₂, inl, inr, ⊎_elim, arith, length-drop, length-set, get_or-drop, get_or-set_other, get_or-set_same, drop-drop}
+use Rattle.std.proofs.Common.{◌≡◌, ℕ, zero, suc, ◌+◌, ◌-◌, ◌<◌, ◌≤◌, Bool, true, false, not, ◌||◌, eqb, ltb, ◌⊎◌, List, [], ◌∷◌, ◌++◌, length, get_or, drop, set, fold, sym, refl, ap, ◌∙◌, subst, ap₂, inl, inr, ⊎_elim, arith, length-drop, get_or-drop, get_or-set_other, get_or-set_same, drop-drop}
 use mathlib.Core.List.{Memᴰ}
 use Rattle.giving.specs.Channels.{Chan, fresh, took, line, other}
-use Rattle.giving.specs.declared.ids.Number.{Number}
-use Rattle.giving.specs.declared.ids.StationId.{StationId}
 use Rattle.giving.specs.declared.message.Body.TheVariants as body
 use Rattle.giving.specs.declared.message.Message.{Message}
 use Rattle.network.proofs.Count.{given_to, taken_from}
-use Rattle.network.proofs.Fine.{Fine, Lists}
+use Rattle.network.proofs.Fine.{Lists}
 use Rattle.network.proofs.Kept.{Holds, held_on, taken_keeps}
 use Rattle.network.proofs.Linked.{Ok, ok_step, ok_reach, given_rest}
-use Rattle.network.proofs.Lists.{all_mem}
 use Rattle.network.proofs.Moves.{received_lines, received_closed}
-use Rattle.network.proofs.Sum.{sum_to, sum_cong, sum_at, sum_has}
+use Rattle.network.proofs.Sum.{sum_to, sum_cong, sum_at}
 use Rattle.network.specs.Places.{under_way}
 use Rattle.network.specs.Promises.{Settled, Arrives}
 use Rattle.network.specs.Worlds.{World, journal, state, channel, Told, wrote, spoke, reminder, Step, writes, reminds, more, Reach, Carry, said, taken, Carries, here, onward}
@@ -24,9 +21,8 @@ use Rattle.state.specs.Changes.{apply, fits}
 use Rattle.state.specs.States.{State, begun, among, was_closed, known, openable, holds_piece}
 use Rattle.state.specs.declared.record.Record.{Record}
 use Rattle.state.specs.declared.record.Record.TheVariants.{Taken}
-use Rattle.std.proofs.ByRecursion.{All-append}
 use Rattle.std.proofs.lemmas.List.Sums.{fold_push}
-use Rattle.std.proofs.lemmas.Bool.{cases_eq, cases_lt, cases_Bool, and_from, eq-eqb, ne_eqb, lt-ltb, true≢false, false≢true}
+use Rattle.std.proofs.lemmas.Bool.{cases_eq, cases_Bool, and_from, eq-eqb, ne_eqb, lt-ltb, true≢false, false≢true}
 use Rattle.std.specs.List.{AllByRecursion}
 use Rattle.timetable.specs.Rows.{Table, listed}
 

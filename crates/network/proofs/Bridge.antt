@@ -1,9 +1,8 @@
 -- What a station decides and says is a run of steps.
 -- Assumes nothing.
-use Rattle.std.proofs.Common.{◌≡◌, ℕ, ◌+◌, ◌-◌, ◌<◌, ◌≤◌, Bool, true, false, cond, ◌⊎◌, List, [], ◌∷◌, ◌++◌, length, get_or, drop, set, Some, None, fold, Option, sym, refl, ap, ◌∙◌, subst, inl, inr, ⊎_elim, append-nil, arith, length-append, length-drop, get_or-set_same}
-use mathlib.Core.List.{Memᴰ}
+use Rattle.std.proofs.Common.{◌≡◌, ℕ, ◌+◌, ◌<◌, Bool, true, false, cond, ◌⊎◌, List, [], ◌∷◌, ◌++◌, length, get_or, set, Some, None, fold, Option, sym, refl, ap, ◌∙◌, subst, inl, inr, append-nil, arith, length-append, length-drop, get_or-set_same}
 use lib.Seq.{set-get_or, get_or-append_seam}
-use Rattle.giving.specs.Channels.{Chan, fresh, gave, line}
+use Rattle.giving.specs.Channels.{fresh, gave, line}
 use Rattle.giving.specs.declared.ids.StationId.{StationId}
 use Rattle.giving.specs.declared.message.Body.TheVariants as body
 use Rattle.giving.specs.declared.message.Message.{Message}
@@ -16,20 +15,18 @@ use Rattle.ledger.specs.declared.input.Outcome.{Outcome}
 use Rattle.ledger.specs.declared.input.Outcome.TheVariants.{Done, Nothing, Passed, Refused}
 use Rattle.network.proofs.Count.{given_to}
 use Rattle.network.proofs.Grow.{grows}
-use Rattle.network.proofs.Linked.{Ok, ok_reach, ok_steps, ok_step}
-use Rattle.network.proofs.Local.{Line, fits_given}
+use Rattle.network.proofs.Linked.{Ok, ok_reach}
+use Rattle.network.proofs.Local.{fits_given}
 use Rattle.network.specs.Promises.{Heeds, called, opened_by, Runs, Extends}
-use Rattle.network.specs.Worlds.{World, journal, state, channel, Told, wrote, spoke, reminder, account, Step, writes, reminds, accounts, Steps, none, more, Reach}
+use Rattle.network.specs.Worlds.{World, journal, state, channel, Told, spoke, reminder, account, Step, writes, reminds, accounts, Steps, none, more, Reach}
 use Rattle.pieces.specs.Parts.{blank}
 use Rattle.pieces.specs.declared.piece.Piece.{Piece}
-use Rattle.state.specs.Changes.{apply, fits, taken_out}
+use Rattle.state.specs.Changes.{apply, fits}
 use Rattle.state.specs.States.{State, begun}
-use Rattle.state.specs.declared.record.Record.{Record}
-use Rattle.state.specs.declared.record.Record.TheVariants.{Opened, Closed, Sold, Undone, Given, Taken, Heard}
 use Rattle.std.proofs.lemmas.List.Sums.{fold_push}
-use Rattle.std.proofs.lemmas.Bool.{cases_eq, eqb-true, ne_eqb, eq-eqb, false≢true}
+use Rattle.std.proofs.lemmas.Bool.{cases_eq, ne_eqb, eq-eqb, false≢true}
 use Rattle.timetable.proofs.Same.{same_row}
-use Rattle.timetable.specs.Additions.{put, admitted, is_same_row}
+use Rattle.timetable.specs.Additions.{put, admitted}
 use Rattle.timetable.specs.Rows.{Table}
 use Rattle.timetable.specs.declared.row.Row.{Row}
 

@@ -1,7 +1,7 @@
 -- How often a stretch of a seat stands in lists of pieces, and what journals give and take.
 -- Assumes nothing.
-use Rattle.std.proofs.Common.{◌≡◌, ℕ, zero, suc, ◌+◌, ◌<◌, ◌≤◌, Bool, true, false, cond, ◌&&◌, eqb, ◌⊎◌, List, [], ◌∷◌, ◌++◌, map, length, get_or, drop, set, sym, refl, ap, ◌∙◌, inl, inr, append_assoc, append-nil, arith}
-use Rattle.state.specs.Changes.{forgotten, stale, trimmed}
+use Rattle.std.proofs.Common.{◌≡◌, ℕ, zero, suc, ◌+◌, ◌<◌, Bool, true, false, cond, eqb, ◌⊎◌, List, [], ◌∷◌, ◌++◌, map, get_or, set, sym, refl, ap, ◌∙◌, inl, inr, append_assoc, append-nil, arith}
+use Rattle.state.specs.Changes.{forgotten, trimmed}
 use Rattle.state.specs.declared.record.Record.{Record}
 use Rattle.state.specs.declared.record.Record.TheVariants.{Opened, Closed, Sold, Undone, Given, Taken, Heard}
 use Rattle.state.specs.declared.record.Sale.{Sale}
@@ -11,7 +11,7 @@ use Rattle.network.specs.Places.{count_in, piece_of, standing}
 use Rattle.pieces.specs.Parts.{has}
 use Rattle.pieces.specs.declared.names.Train.{Train}
 use Rattle.pieces.specs.declared.piece.Piece.{Piece}
-use Rattle.std.proofs.lemmas.Bool.{cases_eq, eq-eqb, ne_eqb, true≢false}
+use Rattle.std.proofs.lemmas.Bool.{cases_eq, eq-eqb, ne_eqb}
 
 -- ---- the pieces that a journal gives to j, and takes from j, in order
 

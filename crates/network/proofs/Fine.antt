@@ -1,30 +1,29 @@
 -- A station at a state that its journal led to.
 -- Assumes nothing.
-use Rattle.std.proofs.Common.{◌≡◌, ℕ, zero, suc, ◌+◌, ◌-◌, ◌<◌, ◌≤◌, Bool, true, false, cond, ◌&&◌, ◌||◌, eqb, ltb, ◌⊎◌, List, [], ◌∷◌, ◌++◌, map, length, get_or, drop, set, replicate, Some, None, Option, sym, refl, ap, ◌∙◌, inl, inr, ⊎_elim, arith}
+use Rattle.std.proofs.Common.{◌≡◌, ℕ, zero, suc, ◌+◌, ◌<◌, ◌≤◌, Bool, true, false, cond, ◌||◌, eqb, List, [], ◌∷◌, ◌++◌, map, length, get_or, replicate, Some, None, Option, sym, refl, ap, ◌∙◌, ⊎_elim, arith}
 use lib.ListN.{length-replicate}
 use Rattle.giving.specs.Channels.{fresh}
-use Rattle.state.specs.Changes.{apply, fits, opened, returned, forgotten, trimmed}
+use Rattle.state.specs.Changes.{apply, fits, opened, returned, forgotten}
 use Rattle.state.specs.States.{State, begun, same, place_of, is_open, among, was_closed, ticket_of}
 use Rattle.state.specs.declared.record.Record.{Record}
 use Rattle.state.specs.declared.record.Record.TheVariants.{Opened, Closed, Sold, Undone, Given, Taken, Heard}
 use Rattle.state.specs.declared.record.Sale.{Sale}
 use Rattle.state.specs.declared.record.Sale.TheVariants.{Stands, Returned}
-use Rattle.state.specs.declared.record.Slot.{Slot}
 use Rattle.state.specs.declared.record.Slot.TheVariants.{Free, Open}
 use Rattle.network.proofs.Count.{given_of, taken_of, given_to, taken_from, given_push, taken_push, count_nil, count_append}
 use Rattle.network.proofs.Held.{Sound, in_word, in_shut}
 use Rattle.network.proofs.Lists.{slice_index_same}
 use Rattle.network.proofs.Local.{Line, fits_sold, fits_given}
 use Rattle.network.proofs.Moves.{received_me, received_closed, received_tickets, lines_next, line_next, sound_next}
-use Rattle.network.proofs.Slots.{place_none, same_train}
-use Rattle.network.proofs.Stock.{stock, due, all_given, all_taken, moved}
-use Rattle.network.proofs.Sum.{sum_to, sum_cong, sum_add, sum_zero}
+use Rattle.network.proofs.Slots.{place_none}
+use Rattle.network.proofs.Stock.{stock, due, all_taken, moved}
+use Rattle.network.proofs.Sum.{sum_to, sum_cong, sum_add}
 use Rattle.network.specs.Places.{count_in, standing}
 use Rattle.network.specs.Worlds.{channel}
 use Rattle.pieces.specs.declared.names.Train.{Train}
 use Rattle.pieces.specs.declared.piece.Piece.{Piece}
 use Rattle.std.proofs.ByRecursion.{All-set, All-push, All-append, All-drop, All-map, All-weaker}
-use Rattle.std.proofs.lemmas.Bool.{cases_Bool, ne_eqb, le-ltb, or_left, true≢false, false≢true}
+use Rattle.std.proofs.lemmas.Bool.{cases_Bool, ne_eqb, le-ltb, true≢false, false≢true}
 use Rattle.std.specs.List.{AllByRecursion}
 use Rattle.timetable.specs.Rows.{Table, listed}
 use Rattle.timetable.specs.declared.row.Row.{Row}

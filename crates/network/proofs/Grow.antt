@@ -1,16 +1,15 @@
 -- A timetable with more trains.
 -- Assumes nothing.
-use Rattle.std.proofs.Common.{◌≡◌, ℕ, ◌<◌, Bool, true, false, cond, not, ◌&&◌, ◌||◌, List, [], ◌∷◌, ◌++◌, length, get_or, set, is_some, Some, None, fold, Option, sym, refl, ap, ◌∙◌, subst, arith, length-set}
-use lib.ListN.{length-replicate}
+use Rattle.std.proofs.Common.{◌≡◌, ℕ, ◌<◌, Bool, true, cond, ◌&&◌, List, [], length, get_or, is_some, Some, None, fold, Option, sym, refl, ap, ◌∙◌, subst, arith}
 use Rattle.giving.specs.Channels.{took, line}
 use Rattle.network.proofs.Linked.{Ok, ok_reach}
 use Rattle.network.proofs.Lists.{set_ind, slice_index_same}
-use Rattle.network.proofs.Local.{Listed, listed_row, fits_opened, fits_taken}
+use Rattle.network.proofs.Local.{listed_row, fits_opened, fits_taken}
 use Rattle.network.specs.Promises.{Extends, Grows}
-use Rattle.network.specs.Worlds.{World, journal, state, channel, Told, wrote, spoke, reminder, account, Step, writes, reminds, accounts, Steps, none, more, Reach, beginning}
+use Rattle.network.specs.Worlds.{World, journal, state, channel, spoke, reminder, account, Step, writes, reminds, accounts, none, more, Reach, beginning}
 use Rattle.pieces.specs.declared.piece.Piece.{Piece}
-use Rattle.state.specs.Changes.{apply, fits, opened, received, returnable, put_back, with_line}
-use Rattle.state.specs.States.{State, begun, is_open, was_closed, known, openable, ticket_of}
+use Rattle.state.specs.Changes.{apply, fits, opened, returnable, put_back, with_line}
+use Rattle.state.specs.States.{State, begun, is_open, was_closed, ticket_of}
 use Rattle.state.specs.declared.record.Record.{Record}
 use Rattle.state.specs.declared.record.Record.TheVariants.{Opened, Closed, Sold, Undone, Given, Taken, Heard}
 use Rattle.state.specs.declared.record.Sale.{Sale}

@@ -1,25 +1,20 @@
 -- What a station holds of a stretch, when its words and its slots are written.
 -- Assumes nothing.
-use Rattle.std.proofs.Common.{◌≡◌, ℕ, zero, suc, ◌+◌, ◌-◌, ◌*◌, ◌<◌, ◌≤◌, Bool, true, false, cond, not, ◌&&◌, ◌||◌, eqb, ltb, leb, ◌⊎◌, List, [], ◌∷◌, ◌++◌, length, get_or, take, drop, set, replicate, Some, None, sym, refl, ap, ◌∙◌, ap₂, inl, inr, ⊎_elim, arith, length-append, length-drop, length-set, get_or-drop, get_or-set_other, get_or-set_same}
-use lib.ListN.{length-replicate}
-use Rattle.state.specs.Changes.{with_words, taken_out, put_back, opening, opened, closing}
-use Rattle.state.specs.States.{State, same, place_of, place, is_open, holds_piece, openable}
-use Rattle.state.specs.declared.record.Slot.{Slot}
+use Rattle.std.proofs.Common.{◌≡◌, ℕ, ◌+◌, ◌<◌, ◌≤◌, Bool, true, false, cond, not, ◌&&◌, ◌||◌, ltb, leb, ◌⊎◌, List, length, get_or, set, sym, refl, ap, ◌∙◌, ap₂, inl, inr, ⊎_elim, arith}
+use Rattle.state.specs.Changes.{with_words, taken_out, put_back}
+use Rattle.state.specs.States.{State, same, place, is_open, holds_piece}
 use Rattle.state.specs.declared.record.Slot.TheVariants.{Free, Open}
 use Rattle.network.proofs.Count.{one}
-use Rattle.network.proofs.Slots.{place_le, place_reads, place_none, place_first, place_other, place_new, same_open, differ, free_only, Unique}
+use Rattle.network.proofs.Slots.{place_le, place_reads, differ, Unique}
 use Rattle.network.specs.Places.{holding}
 use Rattle.pieces.proofs.Bitwise.{holds_less, holds_plus, holds_past, covered_decides}
 use Rattle.pieces.proofs.Places.{word_set, word_set_other, seated_in, seated_out}
-use Rattle.pieces.specs.Memory.{at, word_at, seated, placed}
-use Rattle.pieces.specs.Parts.{has}
-use Rattle.pieces.specs.Stretches.{holds, within, covered, less, plus, span}
+use Rattle.pieces.specs.Memory.{at, word_at, seated}
+use Rattle.pieces.specs.Stretches.{holds, within, covered, less, plus}
 use Rattle.pieces.specs.declared.names.Train.{Train}
 use Rattle.pieces.specs.declared.piece.Piece.{Piece}
-use Rattle.std.proofs.lemmas.List.{get_or_past, get_or-replicate, get_or_append_left, get_or-append_right, get_or-take, length-take-le}
-use Rattle.std.proofs.lemmas.Bool.{cases_eq, cases_lt, cases_Bool, cases_order, eq-eqb, ne_eqb, eqb-true, leb-true, ltb-true, lt-ltb, le-ltb, le-leb, and_parts, true≢false, false≢true}
-use Rattle.timetable.specs.Rows.{stretches}
-use Rattle.timetable.specs.declared.row.Row.{Row}
+use Rattle.std.proofs.lemmas.List.{get_or_past}
+use Rattle.std.proofs.lemmas.Bool.{cases_eq, cases_lt, eq-eqb, ne_eqb, leb-true, ltb-true, lt-ltb, le-ltb, and_parts, true≢false, false≢true}
 
 -- ---- bits
 

@@ -1,11 +1,11 @@
 -- What a station holds, it holds on when it takes a piece.
 -- Assumes nothing.
-use Rattle.std.proofs.Common.{◌≡◌, ℕ, ◌+◌, ◌<◌, ◌≤◌, Bool, true, false, cond, not, ◌&&◌, ◌||◌, ltb, leb, ◌⊎◌, Some, sym, refl, ap, ◌∙◌, inl, inr, ⊎_elim, arith}
+use Rattle.std.proofs.Common.{◌≡◌, ℕ, ◌<◌, ◌≤◌, Bool, true, false, cond, ltb, leb, ◌⊎◌, Some, sym, refl, ap, ◌∙◌, inl, inr, ⊎_elim, arith}
 use Rattle.giving.specs.declared.ids.Number.{Number}
 use Rattle.giving.specs.declared.ids.StationId.{StationId}
 use Rattle.network.proofs.Held.{Sound, bit_le, wrote_here, wrote_there, both}
 use Rattle.network.proofs.Local.{FitsTaken, fits_taken}
-use Rattle.network.proofs.Moves.{Received, shut, there, anew, received_by, received_closed}
+use Rattle.network.proofs.Moves.{Received, shut, there, anew, received_by}
 use Rattle.network.proofs.Trains.{opened_open, opened_sound, in_opened}
 use Rattle.network.specs.Places.{holding}
 use Rattle.pieces.proofs.Bitwise.{holds_plus, covered_decides}
@@ -15,10 +15,10 @@ use Rattle.pieces.specs.declared.names.Train.{Train}
 use Rattle.pieces.specs.declared.piece.Piece.{Piece}
 use Rattle.state.proofs.Opens.{listed_seat}
 use Rattle.state.specs.Changes.{apply, fits, put_back, opened, received}
-use Rattle.state.specs.States.{State, place, is_open, among, was_closed, holds_piece}
+use Rattle.state.specs.States.{State, place, is_open, was_closed, holds_piece}
 use Rattle.state.specs.declared.record.Record.TheVariants.{Taken}
-use Rattle.std.proofs.lemmas.Bool.{and_from, and_parts, leb-true, ltb-true, le-leb, lt-ltb, or_left, or_right, true≢false}
-use Rattle.timetable.specs.Rows.{Table, listed}
+use Rattle.std.proofs.lemmas.Bool.{and_from, and_parts, ltb-true, le-leb, lt-ltb, or_left, or_right}
+use Rattle.timetable.specs.Rows.{Table}
 
 -- held, stretch by stretch
 pub held_each : (x : State) (p : Piece) → holds_piece x p ≡ true → (p.seat.0 < 400) × ((u : ℕ) → p.from.0 ≤ u → u < p.to.0 → holding p.train p.seat.0 u x ≡ true)

@@ -1,11 +1,8 @@
 -- What holds between stations, in every world that is reached.
 -- Assumes nothing.
-use Rattle.std.proofs.Common.{◌≡◌, ℕ, zero, suc, ◌+◌, ◌-◌, ◌<◌, ◌≤◌, max, Bool, true, false, cond, ◌&&◌, ◌||◌, eqb, ◌⊎◌, List, [], ◌∷◌, ◌++◌, length, get_or, drop, set, replicate, Some, None, fold, Option, sym, refl, ap, ◌∙◌, subst, inl, inr, ⊎_elim, append-nil, arith, length-append, length-drop, length-set, get_or-drop, drop-drop, drop_at}
-use mathlib.Core.List.{Memᴰ}
+use Rattle.std.proofs.Common.{◌≡◌, ℕ, ◌+◌, ◌-◌, ◌<◌, ◌≤◌, Bool, true, false, cond, eqb, ◌⊎◌, List, [], ◌++◌, length, get_or, drop, Some, None, fold, Option, sym, refl, ap, ◌∙◌, inl, inr, ⊎_elim, append-nil, arith, length-append, length-drop, length-set, get_or-drop, drop-drop, drop_at}
 use lib.ListN.{length-replicate}
 use Rattle.giving.specs.Channels.{fresh}
-use Rattle.giving.specs.declared.ids.Number.{Number}
-use Rattle.giving.specs.declared.ids.StationId.{StationId}
 use Rattle.giving.specs.declared.message.Body.{Body}
 use Rattle.giving.specs.declared.message.Body.TheVariants as body
 use Rattle.giving.specs.declared.message.Message.{Message}
@@ -13,7 +10,7 @@ use Rattle.state.specs.Changes.{apply, fits}
 use Rattle.state.specs.States.{State, begun, known, was_closed}
 use Rattle.state.specs.declared.record.Record.{Record}
 use Rattle.state.specs.declared.record.Record.TheVariants.{Opened, Closed, Sold, Undone, Given, Taken, Heard}
-use Rattle.network.proofs.Count.{given_of, taken_of, given_to, taken_from, given_push, taken_push, count_append}
+use Rattle.network.proofs.Count.{taken_of, given_to, taken_from, given_push, taken_push, count_append}
 use Rattle.network.proofs.Fine.{Fine, fine_first, fine_next, me_next}
 use Rattle.network.proofs.Lists.{set_ind, all_mem, Begins, begins_refl, begins_trans, begins_push, begins_next, slice_index_begins, slice_index_same}
 use Rattle.network.proofs.Local.{fits_taken}
@@ -22,7 +19,7 @@ use Rattle.network.proofs.Stock.{stock, due, all_taken}
 use Rattle.network.proofs.Sum.{sum_to, sum_cong, sum_add, sum_swap, sum_has, sum_one, sum_past, sum_at, sum_zero, sum_le}
 use Rattle.network.proofs.Trains.{share, share_le}
 use Rattle.network.specs.Places.{count_in, under_way}
-use Rattle.network.specs.Worlds.{World, journal, state, channel, Told, wrote, spoke, reminder, account, Step, writes, reminds, accounts, Steps, none, more, Reach, beginning}
+use Rattle.network.specs.Worlds.{World, journal, state, channel, Told, wrote, reminder, account, Step, writes, reminds, accounts, Steps, none, more, Reach, beginning}
 use Rattle.pieces.specs.Parts.{blank}
 use Rattle.pieces.specs.declared.names.Train.{Train}
 use Rattle.pieces.specs.declared.piece.Piece.{Piece}

@@ -1,31 +1,20 @@
 -- What holds of a station by itself, whatever its journal.
 -- Assumes nothing.
-use Rattle.std.proofs.Common.{◌≡◌, ℕ, zero, suc, ◌+◌, ◌-◌, ◌<◌, ◌≤◌, max, Bool, true, false, cond, not, ◌&&◌, ◌||◌, eqb, ltb, leb, ◌⊎◌, List, [], ◌∷◌, ◌++◌, map, length, get_or, drop, set, is_some, Some, None, Option, sym, refl, ap, ◌∙◌, subst, inl, inr, ⊎_elim, append-nil, arith, length-append, length-set, get_or-set_other, get_or-set_same, drop-drop}
-use lib.ListN.{length-replicate}
+use Rattle.std.proofs.Common.{◌≡◌, ℕ, ◌+◌, ◌-◌, ◌<◌, ◌≤◌, max, Bool, true, false, not, ◌&&◌, ◌||◌, eqb, ltb, List, [], ◌∷◌, ◌++◌, length, drop, is_some, Some, None, Option, sym, refl, ap, ◌∙◌, arith, length-append, drop-drop}
 use lib.Seq.{drop-append-le}
-use Rattle.giving.specs.Channels.{Chan, fresh, gave, took, heard_to, news, line, numbered, roomy, other}
+use Rattle.giving.specs.Channels.{Chan, gave, took, heard_to, line, other}
 use Rattle.giving.specs.declared.ids.Number.{Number}
 use Rattle.giving.specs.declared.ids.StationId.{StationId}
 use Rattle.giving.specs.declared.ids.Ticket.{Ticket}
-use Rattle.state.specs.Changes.{apply, fits, taken_out, put_back, opened, closing, received, returned, returnable, forgotten, trimmed}
-use Rattle.state.specs.States.{State, begun, place_of, place, is_open, among, was_closed, known, openable, holds_piece, tickets_left, sold, ticket_of}
-use Rattle.state.specs.declared.record.Record.{Record}
-use Rattle.state.specs.declared.record.Record.TheVariants.{Opened, Closed, Sold, Undone, Given, Taken, Heard}
-use Rattle.state.specs.declared.record.Sale.{Sale}
-use Rattle.state.specs.declared.record.Sale.TheVariants.{Stands, Returned}
-use Rattle.state.specs.declared.record.Slot.TheVariants.{Free, Open}
-use Rattle.network.proofs.Count.{given_of, taken_of, given_to, taken_from, given_push, taken_push, standing_push, standing_trimmed, one, count_nil, count_append, count_push, count_returned, count_to, one_other, count_forgotten, count_forgotten_all}
-use Rattle.network.proofs.Held.{Sound, in_word, in_out, in_back, in_shut}
-use Rattle.network.proofs.Lists.{slice_index_same}
-use Rattle.network.proofs.Sum.{sum_to, sum_cong, sum_add, sum_zero}
-use Rattle.network.proofs.Trains.{share, opened_open, opened_same, opened_sound, in_opened, closing_same, closing_shut, closing_sound, in_closing}
-use Rattle.network.specs.Places.{count_in, standing}
-use Rattle.network.specs.Worlds.{channel}
+use Rattle.state.specs.Changes.{fits}
+use Rattle.state.specs.States.{State, place_of, is_open, known, openable, holds_piece, tickets_left, sold}
+use Rattle.state.specs.declared.record.Record.TheVariants.{Opened, Sold, Given, Taken, Heard}
+use Rattle.state.specs.declared.record.Slot.TheVariants.{Free}
 use Rattle.pieces.specs.declared.names.Train.{Train}
 use Rattle.pieces.specs.declared.piece.Piece.{Piece}
-use Rattle.std.proofs.lemmas.Bool.{cases_eq, cases_Bool, eq-eqb, ne_eqb, eqb-true, ltb-true, and_parts, or_left, or_right, or_cases, true≢false, false≢true}
+use Rattle.std.proofs.lemmas.Bool.{eq-eqb, eqb-true, ltb-true, and_parts, true≢false, false≢true}
 use Rattle.std.proofs.lemmas.Bool.Decides.{nat_tests}
-use Rattle.timetable.specs.Rows.{Table, listed, within}
+use Rattle.timetable.specs.Rows.{Table, listed}
 use Rattle.timetable.specs.declared.row.Row.{Row}
 
 -- ---- a line: what is given and taken on it, in order

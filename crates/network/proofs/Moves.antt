@@ -1,28 +1,22 @@
 -- What a record that fits makes of a station: its lines, and its stock of a stretch.
 -- Assumes nothing.
-use Rattle.std.proofs.Common.{◌≡◌, ℕ, zero, suc, ◌+◌, ◌-◌, ◌<◌, ◌≤◌, max, Bool, true, false, cond, not, ◌&&◌, ◌||◌, eqb, ltb, leb, ◌⊎◌, List, [], ◌∷◌, ◌++◌, map, length, get_or, drop, set, is_some, Some, None, Option, sym, refl, ap, ◌∙◌, subst, inl, inr, ⊎_elim, append-nil, arith, length-append, length-set, get_or-set_other, get_or-set_same}
-use lib.ListN.{length-replicate}
+use Rattle.std.proofs.Common.{◌≡◌, ℕ, ◌-◌, ◌<◌, ◌≤◌, max, Bool, true, false, cond, ◌||◌, eqb, List, ◌++◌, length, set, is_some, Some, None, Option, sym, refl, ap, ◌∙◌, subst, ⊎_elim, append-nil, arith, length-set, get_or-set_other, get_or-set_same}
 use Rattle.giving.specs.Channels.{Chan, fresh, gave, took, heard_to, line}
-use Rattle.giving.specs.declared.ids.Number.{Number}
-use Rattle.giving.specs.declared.ids.StationId.{StationId}
-use Rattle.giving.specs.declared.ids.Ticket.{Ticket}
-use Rattle.state.specs.Changes.{apply, fits, taken_out, put_back, opened, closing, received, returned, returnable, forgotten, trimmed}
-use Rattle.state.specs.States.{State, place_of, place, is_open, among, was_closed, known, openable, ticket_of}
+use Rattle.state.specs.Changes.{apply, fits, put_back, opened, received, returned}
+use Rattle.state.specs.States.{State, place_of, is_open, was_closed, known, openable, ticket_of}
 use Rattle.state.specs.declared.record.Record.{Record}
 use Rattle.state.specs.declared.record.Record.TheVariants.{Opened, Closed, Sold, Undone, Given, Taken, Heard}
 use Rattle.state.specs.declared.record.Sale.{Sale}
 use Rattle.state.specs.declared.record.Sale.TheVariants.{Stands, Returned}
 use Rattle.state.specs.declared.record.Slot.TheVariants.{Free}
-use Rattle.network.proofs.Count.{given_of, taken_of, standing_push, standing_trimmed, one, count_nil, count_push, count_returned, count_to, one_other, count_forgotten, count_forgotten_all}
-use Rattle.network.proofs.Held.{Sound, in_word, in_out, in_back, in_shut}
-use Rattle.network.proofs.Local.{Line, line_gave, line_took, line_heard, Listed, listed_row, not_true, or_false, free_lt, fits_opened, fits_sold, fits_given, fits_taken, fits_heard}
-use Rattle.network.proofs.Sum.{sum_to, sum_zero}
-use Rattle.network.proofs.Trains.{share, opened_open, opened_same, opened_sound, in_opened, closing_same, closing_shut, closing_sound, in_closing}
-use Rattle.network.specs.Places.{count_in, standing}
+use Rattle.network.proofs.Count.{given_of, taken_of}
+use Rattle.network.proofs.Held.{Sound}
+use Rattle.network.proofs.Local.{Line, line_gave, line_took, line_heard, Listed, listed_row, or_false, free_lt, fits_opened, fits_given, fits_taken, fits_heard}
+use Rattle.network.proofs.Trains.{opened_sound, closing_sound}
 use Rattle.network.specs.Worlds.{channel}
 use Rattle.pieces.specs.declared.names.Train.{Train}
 use Rattle.pieces.specs.declared.piece.Piece.{Piece}
-use Rattle.std.proofs.lemmas.Bool.{cases_eq, cases_Bool, eq-eqb, ne_eqb, eqb-true, and_parts, or_left, or_right, or_cases, true≢false, false≢true}
+use Rattle.std.proofs.lemmas.Bool.{cases_eq, eq-eqb, ne_eqb}
 use Rattle.timetable.specs.Rows.{Table, listed}
 use Rattle.timetable.specs.declared.row.Row.{Row}
 

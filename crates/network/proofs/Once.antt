@@ -1,37 +1,33 @@
 -- Each stretch of each seat is in one place, none is sold twice, and who holds a piece sells it.
 -- Assumes nothing.
-use Rattle.std.proofs.Common.{◌≡◌, ℕ, zero, suc, ◌+◌, ◌-◌, ◌<◌, ◌≤◌, Bool, true, false, cond, ◌&&◌, ◌||◌, eqb, ltb, leb, ◌⊎◌, List, [], ◌∷◌, ◌++◌, length, get_or, set, replicate, Some, None, fold, Option, sym, refl, ap, ◌∙◌, inl, inr, ⊎_elim, arith, length-append, get_or-set_other}
+use Rattle.std.proofs.Common.{◌≡◌, ℕ, zero, suc, ◌+◌, ◌-◌, ◌<◌, ◌≤◌, Bool, true, false, cond, ◌&&◌, eqb, ltb, ◌⊎◌, List, [], ◌∷◌, ◌++◌, length, get_or, set, replicate, Some, None, fold, Option, sym, refl, ap, ◌∙◌, inl, inr, ⊎_elim, arith, length-append, get_or-set_other}
 use lib.ListN.{length-replicate}
 use Rattle.state.proofs.Opens.{listed_seat}
 use Rattle.state.specs.Changes.{apply}
-use Rattle.ledger.specs.Decisions.{decided}
-use Rattle.state.specs.States.{State, begun, is_open, was_closed, known, place, holds_piece, tickets_left, sold}
-use Rattle.ledger.specs.declared.input.Input.TheVariants.{Sell}
-use Rattle.ledger.specs.declared.input.Outcome.TheVariants.{Done}
-use Rattle.state.specs.declared.record.Record.TheVariants.{Sold}
+use Rattle.state.specs.States.{State, begun, is_open, was_closed, known, place, holds_piece}
 use Rattle.state.specs.declared.record.Sale.{Sale}
 use Rattle.state.specs.declared.record.Sale.TheVariants.{Stands, Returned}
 use Rattle.network.proofs.Count.{one, count_returned}
 use Rattle.network.proofs.Fine.{begun_shut, real_at}
-use Rattle.network.proofs.Held.{in_word, in_shut}
-use Rattle.network.proofs.Linked.{Ok, ok_reach, way, total, total_most, total_even, total_one, dues_one}
+use Rattle.network.proofs.Held.{in_shut}
+use Rattle.network.proofs.Linked.{Ok, ok_reach, total, total_most, total_even, total_one, dues_one}
 use Rattle.network.proofs.Local.{listed_row}
 use Rattle.network.proofs.Stock.{stock, due}
 use Rattle.network.proofs.Sum.{sum_to, sum_cong, sum_add, sum_zero, sum_has, sum_has_two}
 use Rattle.network.proofs.Trains.{share}
 use Rattle.network.specs.Places.{holding, count_in, standing, under_way, gather, spots, places}
 use Rattle.network.specs.Promises.{OnePlace, NeverTwice, OnlyWhatIs, SellsAlone}
-use Rattle.network.specs.Worlds.{World, state, Reach}
+use Rattle.network.specs.Worlds.{World, state}
 use Rattle.network.specs.declared.place.Place.{Place}
 use Rattle.network.specs.declared.place.Place.TheVariants as spot
 use Rattle.pieces.proofs.Bitwise.{covered_decides}
 use Rattle.pieces.specs.Memory.{word_at}
 use Rattle.pieces.specs.Parts.{has}
-use Rattle.pieces.specs.Stretches.{covered, holds, within}
+use Rattle.pieces.specs.Stretches.{covered, within}
 use Rattle.pieces.specs.declared.names.Train.{Train}
 use Rattle.pieces.specs.declared.piece.Piece.{Piece}
 use Rattle.std.proofs.lemmas.List.{get_or_past}
-use Rattle.std.proofs.lemmas.Bool.{cases_eq, cases_lt, cases_Bool, eq-eqb, eqb-true, lt-ltb, le-ltb, ltb-true, and_parts, or_left, true≢false, false≢true}
+use Rattle.std.proofs.lemmas.Bool.{cases_eq, cases_lt, cases_Bool, eq-eqb, eqb-true, lt-ltb, le-ltb, ltb-true, and_parts, or_left, true≢false}
 use Rattle.timetable.specs.Rows.{Table, stretches}
 use Rattle.timetable.specs.declared.row.Row.{Row}
 

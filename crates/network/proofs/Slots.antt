@@ -1,11 +1,11 @@
 -- Where a train's slot is, when slots are written.
 -- Assumes nothing.
-use Rattle.std.proofs.Common.{◌≡◌, ℕ, zero, suc, ◌+◌, ◌<◌, ◌≤◌, Bool, true, false, cond, ◌&&◌, eqb, ◌⊎◌, List, [], ◌∷◌, length, get_or, set, sym, refl, ap, ◌∙◌, inl, inr, arith}
+use Rattle.std.proofs.Common.{◌≡◌, ℕ, zero, suc, ◌<◌, ◌≤◌, Bool, true, false, List, [], ◌∷◌, length, get_or, set, sym, refl, ap, ◌∙◌, arith}
 use Rattle.state.specs.States.{same, place_of}
 use Rattle.state.specs.declared.record.Slot.{Slot}
 use Rattle.state.specs.declared.record.Slot.TheVariants.{Free, Open}
 use Rattle.pieces.specs.declared.names.Train.{Train}
-use Rattle.std.proofs.lemmas.Bool.{cases_Bool, cond_both, eqb-true, eq-eqb, ne_eqb, true≢false, false≢true}
+use Rattle.std.proofs.lemmas.Bool.{cond_both, eqb-true, eq-eqb, ne_eqb, false≢true}
 
 pub place_le : (xs : List Slot) (x : Slot) → place_of xs x ≤ length xs
 place_le [] x = omega arith

@@ -1,11 +1,9 @@
 -- The stock of a stretch at a station, held or sold, when it writes a record.
 -- Assumes nothing.
-use Rattle.std.proofs.Common.{◌≡◌, ℕ, zero, suc, ◌+◌, ◌-◌, ◌<◌, ◌≤◌, Bool, true, false, cond, not, ◌&&◌, ◌||◌, eqb, ltb, ◌⊎◌, List, [], ◌∷◌, ◌++◌, map, length, get_or, set, is_some, Some, None, Option, sym, refl, ap, ◌∙◌, subst, inl, inr, ⊎_elim, append-nil, arith}
-use Rattle.giving.specs.declared.ids.Number.{Number}
-use Rattle.giving.specs.declared.ids.StationId.{StationId}
+use Rattle.std.proofs.Common.{◌≡◌, ℕ, ◌+◌, ◌-◌, ◌<◌, ◌≤◌, Bool, true, false, cond, ◌||◌, eqb, ltb, ◌⊎◌, List, [], ◌∷◌, ◌++◌, map, length, get_or, set, is_some, Some, None, Option, sym, refl, ap, ◌∙◌, subst, inl, inr, arith}
 use Rattle.giving.specs.declared.ids.Ticket.{Ticket}
 use Rattle.state.proofs.Opens.{listed_seat}
-use Rattle.state.specs.Changes.{apply, fits, taken_out, put_back, opened, closing, received, returned, returnable, forgotten, trimmed}
+use Rattle.state.specs.Changes.{apply, fits, put_back, opened, closing, received, returnable, forgotten, trimmed}
 use Rattle.state.specs.States.{State, place_of, is_open, among, was_closed, known, ticket_of}
 use Rattle.state.specs.declared.record.Record.{Record}
 use Rattle.state.specs.declared.record.Record.TheVariants.{Opened, Closed, Sold, Undone, Given, Taken, Heard}
@@ -14,14 +12,14 @@ use Rattle.state.specs.declared.record.Sale.TheVariants.{Stands, Returned}
 use Rattle.state.specs.declared.record.Slot.TheVariants.{Free}
 use Rattle.network.proofs.Count.{given_of, taken_of, standing_push, standing_trimmed, one, count_nil, count_push, count_returned, count_to, one_other, count_forgotten, count_forgotten_all}
 use Rattle.network.proofs.Held.{Sound, in_word, in_out, in_back, in_shut}
-use Rattle.network.proofs.Local.{listed_row, or_false, fits_opened, fits_sold, fits_given, fits_taken}
-use Rattle.network.proofs.Moves.{Received, shut, there, anew, received_by, received_me, received_closed, received_tickets}
+use Rattle.network.proofs.Local.{or_false, fits_opened, fits_sold, fits_given, fits_taken}
+use Rattle.network.proofs.Moves.{Received, shut, there, anew, received_by}
 use Rattle.network.proofs.Sum.{sum_to, sum_zero}
-use Rattle.network.proofs.Trains.{share, share_le, opened_open, opened_same, opened_sound, in_opened, closing_same, closing_shut, closing_sound, in_closing}
+use Rattle.network.proofs.Trains.{share, opened_open, opened_same, opened_sound, in_opened, closing_same, closing_shut, closing_sound, in_closing}
 use Rattle.network.specs.Places.{count_in, standing}
 use Rattle.pieces.specs.declared.names.Train.{Train}
 use Rattle.pieces.specs.declared.piece.Piece.{Piece}
-use Rattle.std.proofs.lemmas.Bool.{cases_eq, cases_Bool, eq-eqb, ne_eqb, eqb-true, and_parts, or_left, or_right, true≢false, false≢true}
+use Rattle.std.proofs.lemmas.Bool.{cases_eq, eq-eqb, ne_eqb, and_parts, or_left, or_right, true≢false, false≢true}
 use Rattle.timetable.specs.Rows.{Table, listed}
 use Rattle.timetable.specs.declared.row.Row.{Row}
 

@@ -1,20 +1,17 @@
 -- A train opened, and closed: what that makes of the slots and of what is held.
 -- Assumes nothing.
-use Rattle.std.proofs.Common.{◌≡◌, ℕ, zero, suc, ◌+◌, ◌-◌, ◌*◌, ◌<◌, ◌≤◌, Bool, true, false, cond, not, ◌&&◌, ◌||◌, eqb, ltb, ◌⊎◌, List, [], ◌∷◌, ◌++◌, length, get_or, set, Some, None, Option, sym, refl, ap, ◌∙◌, inl, inr, ⊎_elim, arith, length-set, get_or-set_other, get_or-set_same}
-use Rattle.state.specs.Changes.{taken_out, put_back, opening, opened, closing}
+use Rattle.std.proofs.Common.{◌≡◌, ℕ, ◌+◌, ◌<◌, ◌≤◌, Bool, true, false, cond, eqb, ltb, ◌⊎◌, List, length, get_or, set, Some, None, Option, sym, refl, ap, ◌∙◌, inl, inr, ⊎_elim, arith, length-set, get_or-set_other, get_or-set_same}
+use Rattle.state.specs.Changes.{opening, opened, closing}
 use Rattle.state.specs.States.{State, same, place_of, place, is_open}
-use Rattle.state.specs.declared.record.Slot.{Slot}
 use Rattle.state.specs.declared.record.Slot.TheVariants.{Free, Open}
-use Rattle.network.proofs.Held.{Sound, bit, bit_zero, in_word, in_shut, open_lt, shut_is, seated_bit, place_apart}
-use Rattle.network.proofs.Slots.{place_le, place_reads, place_none, place_first, place_other, place_new, same_open, same_train, differ, free_only, Unique}
-use Rattle.network.specs.Places.{holding}
+use Rattle.network.proofs.Held.{Sound, bit, bit_zero, in_word, in_shut, open_lt, shut_is, seated_bit}
+use Rattle.network.proofs.Slots.{place_reads, place_none, place_first, place_other, place_new, same_open, differ, free_only}
 use Rattle.pieces.proofs.Bitwise.{holds_span}
 use Rattle.pieces.proofs.Places.{length_seated, length_placed, word_placed, word_placed_other}
 use Rattle.pieces.specs.Memory.{word_at, seated, placed}
-use Rattle.pieces.specs.Stretches.{holds, within, span}
+use Rattle.pieces.specs.Stretches.{span}
 use Rattle.pieces.specs.declared.names.Train.{Train}
-use Rattle.pieces.specs.declared.piece.Piece.{Piece}
-use Rattle.std.proofs.lemmas.Bool.{cases_eq, cases_lt, cases_Bool, eq-eqb, ne_eqb, eqb-true, ltb-true, lt-ltb, le-ltb, le-leb, true≢false, false≢true}
+use Rattle.std.proofs.lemmas.Bool.{cases_eq, cases_Bool, eq-eqb, ne_eqb, eqb-true, lt-ltb, le-ltb, le-leb, true≢false, false≢true}
 use Rattle.timetable.specs.Rows.{stretches}
 use Rattle.timetable.specs.declared.row.Row.{Row}
 

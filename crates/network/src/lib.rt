@@ -1,4 +1,6 @@
 // Stations, each with its journal, and all that was ever said between them: each stretch of each seat is in one place.
+#![tactic(auto)]
+
 ghost use Rattle.network.specs.Promises.{OnePlace, NeverTwice, OnlyWhatIs, SellsAlone, Arrives, Grows, Runs};
 
 pub mod place;

@@ -1,4 +1,6 @@
 // Seats of trains, from stop to stop: which stretches of a seat are held, as the bits of one word.
+#![tactic(auto)]
+
 pub mod laws;
 pub mod memory;
 pub mod names;

@@ -2,8 +2,8 @@
 -- Assumes nothing.
 use Rattle.std.proofs.Common.{◌≡◌, ℕ, zero, suc, ◌+◌, ◌<◌, ◌≤◌, Bool, true, false, cond, ◌⊎◌, List, [], ◌∷◌, ◌++◌, map, length, get_or, set, replicate, Some, fold, sym, refl, ap, ◌∙◌, subst, ap₂, inl, inr, ⊎_elim, append-nil, arith, length-append, length-set, get_or-set_other, get_or-set_same}
 use mathlib.Core.List.{Memᴰ}
-use lib.ListN.{length-map, length-replicate, get_or-append}
-use lib.Seq.{map-set, set-get_or, get_or_at}
+use lib.ListN.{length-map, get_or-append}
+use lib.Seq.{map-set, get_or_at}
 use Rattle.giving.proofs.Mapped.{map_at}
 use Rattle.giving.specs.declared.ids.Number.{Number}
 use Rattle.giving.specs.declared.ids.StationId.{StationId}
@@ -15,16 +15,15 @@ use Rattle.ledger.specs.Decisions.{decided, decided_open, listing, after, record
 use Rattle.ledger.specs.declared.input.Input.{Input}
 use Rattle.ledger.specs.declared.input.Outcome.{Outcome}
 use Rattle.ledger.specs.declared.input.Outcome.TheVariants.{Done, Nothing, Passed, Refused}
-use Rattle.network.proofs.Bridge.{calls_any, opening, steps_then, written, state_is, put_extends}
+use Rattle.network.proofs.Bridge.{calls_any, opening, steps_then, put_extends}
 use Rattle.network.proofs.Grow.{grows}
-use Rattle.network.proofs.Linked.{Ok, ok_reach}
 use Rattle.network.proofs.Lists.{slice_index_same}
 use Rattle.network.proofs.Once.{once}
 use Rattle.network.specs.Places.{holding, count_in, standing, under_way, gather, spots, places}
-use Rattle.network.specs.Promises.{Heeds, called, opened_by, Extends}
+use Rattle.network.specs.Promises.{Heeds, Extends}
 use Rattle.network.specs.declared.place.Place.{Place}
 use Rattle.network.specs.declared.place.Place.TheVariants.{Held, Sold, Way}
-use Rattle.network.specs.Worlds.{World, journal, state, channel, spoke, reminder, Step, reminds, Steps, none, more, Reach}
+use Rattle.network.specs.Worlds.{journal, state, channel, reminder, reminds, Steps, none, more, Reach}
 use Rattle.pieces.specs.Parts.{blank}
 use Rattle.pieces.specs.declared.names.Train.{Train}
 use Rattle.pieces.specs.declared.piece.Piece.{Piece}

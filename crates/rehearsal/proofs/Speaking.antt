@@ -1,13 +1,13 @@
 -- Things said one after the other.
 -- Assumes nothing.
-use Rattle.std.proofs.Common.{◌≡◌, ℕ, zero, suc, ◌+◌, ◌-◌, ◌≤◌, Bool, true, false, cond, List, [], ◌∷◌, ◌++◌, map, length, get_or, vec_items, sym, refl, ap, ◌∙◌, subst, append_assoc, append-nil, add-one, arith}
+use Rattle.std.proofs.Common.{◌≡◌, ℕ, ◌+◌, ◌-◌, ◌≤◌, List, [], ◌∷◌, ◌++◌, map, length, get_or, vec_items, sym, refl, ap, ◌∙◌, subst, append_assoc, append-nil, add-one, arith}
 use mathlib.Core.Logic.{∥∥₁_elim, ∥∥₁_map, ∥∥₁_prop}
 use Rattle.giving.specs.declared.message.Message.{Message}
 use Rattle.network.proofs.Bridge.{steps_then}
 use Rattle.network.specs.Places.{gather}
 use Rattle.network.specs.Worlds.{Steps, none, channel, reminder}
 use Rattle.rehearsal.specs.Lives.{shown, nowhere}
-use Rattle.rehearsal.specs.Seen.{seen, rows, count, state_of, reminders_to, reminders, Spoken}
+use Rattle.rehearsal.specs.Seen.{seen, rows, count, state_of, reminders_to, Spoken}
 use Rattle.rehearsal.specs.declared.world.World.{World as Code}
 use Rattle.timetable.specs.Tables.{table}
 

@@ -1,5 +1,5 @@
 -- Stations as they are in memory, beside their journals, in a world that was reached.
-use Rattle.std.specs.Prelude.{◌≡◌, ℕ, ◌<◌, List, [], ◌∷◌, map, length, vec_items, slice_index_or}
+use Rattle.std.specs.Prelude.{◌≡◌, ℕ, ◌<◌, List, [], map, length, vec_items, slice_index_or}
 use Rattle.giving.specs.declared.message.Message.{Message}
 use Rattle.network.specs.Worlds.{World, state, Reach}
 use Rattle.rehearsal.specs.declared.post.Post.{Post}

@@ -1,4 +1,6 @@
 // Plays a script of up to eight stations in memory, and prints what they say and where each stretch of each seat is.
+#![tactic(auto)]
+
 mod map;
 mod player;
 

@@ -1,4 +1,6 @@
 // The lines of a script, and the text of messages and refusals.
+#![tactic(auto)]
+
 pub mod command;
 pub mod show;
 pub mod values;

@@ -1,10 +1,10 @@
 -- What is held of a train that is not open, and the lowest seat of one that is.
-use Rattle.std.proofs.Common.{◌≡◌, ℕ, zero, suc, ◌<◌, ◌≤◌, Bool, true, false, ◌&&◌, ◌||◌, ltb, List, length, Some, None, Option, ap, ◌∙◌, subst, ap₂, arith, le-ltb, MatchOption}
+use Rattle.std.proofs.Common.{◌≡◌, ℕ, zero, suc, ◌<◌, ◌≤◌, Bool, true, false, ◌&&◌, ◌||◌, List, length, Some, None, Option, ap, ◌∙◌, subst, ap₂, arith, le-ltb, MatchOption}
 use Rattle.std.proofs.lemmas.List.{get_or_past}
 use Rattle.pieces.proofs.Bitwise.{holds_zero}
 use Rattle.pieces.specs.Memory.{at, word_at}
 use Rattle.pieces.specs.Search.{NoneCovers, Lowest}
-use Rattle.pieces.specs.Stretches.{holds, covered}
+use Rattle.pieces.specs.Stretches.{covered}
 use Rattle.pieces.specs.declared.names.Seat.{Seat}
 
 -- a word with no stretch covers nothing

@@ -1,5 +1,5 @@
 -- Trains opened and closed, and tickets that stand.
-use Rattle.std.proofs.Common.{◌≡◌, ℕ, zero, suc, ◌+◌, ◌-◌, ◌<◌, ◌≤◌, Bool, true, false, cond, ◌&&◌, ◌||◌, eqb, ltb, List, [], ◌∷◌, ◌++◌, map, length, get_or, set, Some, None, Option, sym, refl, ap, ◌∙◌, ap₂, arith, lt-ltb, eq-eqb}
+use Rattle.std.proofs.Common.{◌≡◌, ℕ, zero, suc, ◌+◌, ◌-◌, ◌<◌, Bool, true, false, cond, ◌||◌, eqb, List, [], ◌∷◌, ◌++◌, map, length, set, Some, None, Option, refl, ap, ap₂, arith, lt-ltb, eq-eqb}
 use Rattle.std.proofs.lemmas.List.{get_or_past, length-set}
 use Rattle.std.proofs.lemmas.Bool.Decides.{nat_tests}
 use Rattle.pieces.specs.declared.names.Train.{Train}
@@ -8,9 +8,8 @@ use Rattle.timetable.specs.Rows.{listed}
 use Rattle.timetable.specs.declared.row.Row.{Row}
 use Rattle.state.specs.Changes.{opened, closing, forgotten, stale, trimmed}
 use Rattle.state.specs.Ready.{trimming}
-use Rattle.state.specs.States.{State, same, place_of, place, is_open, openable, ticket_of}
-use Rattle.state.specs.declared.record.Sale.{Sale}
-use Rattle.state.specs.declared.record.Sale.TheVariants.{Stands, Returned}
+use Rattle.state.specs.States.{State, place_of, place, is_open, openable, ticket_of}
+use Rattle.state.specs.declared.record.Sale.TheVariants.{Stands}
 use Rattle.state.specs.declared.record.Slot.{Slot}
 use Rattle.state.specs.declared.record.Slot.TheVariants.{Free, Open}
 use Rattle.state.proofs.Same.{same_state}

@@ -1,6 +1,6 @@
 -- The change that each record makes, and where a record may stand.
-use Rattle.std.specs.Prelude.{ℕ, suc, ◌+◌, ◌-◌, Bool, true, false, cond, not, ◌&&◌, ◌||◌, List, [], ◌∷◌, ◌++◌, map, length, drop, is_some, Some, None, Option, ◌==◌, slice_set}
-use Rattle.giving.specs.Channels.{Chan, fresh, gave, took, heard_to, line, news, numbered, roomy, other}
+use Rattle.std.specs.Prelude.{ℕ, suc, ◌+◌, ◌-◌, Bool, false, cond, not, ◌&&◌, ◌||◌, List, [], ◌∷◌, ◌++◌, map, drop, is_some, Some, None, Option, ◌==◌, slice_set}
+use Rattle.giving.specs.Channels.{Chan, gave, took, heard_to, line, news, numbered, roomy, other}
 use Rattle.giving.specs.declared.ids.StationId.{StationId}
 use Rattle.state.specs.States.{State, place_of, place, is_open, was_closed, known, openable, holds_piece, sold, tickets_left, ticket_of}
 use Rattle.state.specs.declared.record.Record.{Record}

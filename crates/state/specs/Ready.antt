@@ -1,8 +1,7 @@
 -- What a record needs besides that it fits, and the smaller changes that records are made of.
-use Rattle.std.specs.Prelude.{◌≡◌, ◌+◌, ◌<◌, ◌≤◌, true, map, vec_len, vec_capacity}
-use Rattle.pieces.specs.declared.names.Train.{Train}
+use Rattle.std.specs.Prelude.{◌≡◌, ◌+◌, ◌<◌, ◌≤◌, true, vec_len, vec_capacity}
 use Rattle.pieces.specs.declared.piece.Piece.{Piece}
-use Rattle.state.specs.Changes.{forgotten, stale, trimmed}
+use Rattle.state.specs.Changes.{stale, trimmed}
 use Rattle.state.specs.States.{State, is_open}
 use Rattle.state.specs.declared.record.Record.{Record}
 use Rattle.state.specs.declared.record.Record.TheVariants.{Opened, Closed, Sold, Undone, Given, Taken, Heard}

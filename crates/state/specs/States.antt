@@ -1,8 +1,8 @@
 -- A station's lasting state as plain lists, and what can be read off it.
-use Rattle.std.specs.Prelude.{ℕ, suc, ◌+◌, ◌-◌, Bool, true, false, cond, not, ◌&&◌, ◌||◌, List, [], ◌∷◌, length, replicate, ◌==◌, nat_lt, slice_index_or}
+use Rattle.std.specs.Prelude.{ℕ, suc, ◌+◌, ◌-◌, Bool, true, false, cond, ◌&&◌, ◌||◌, List, [], ◌∷◌, length, replicate, ◌==◌, nat_lt, slice_index_or}
 use Rattle.giving.specs.Channels.{Chan, fresh}
 use Rattle.state.specs.declared.record.Sale.{Sale}
-use Rattle.state.specs.declared.record.Sale.TheVariants.{Stands, Returned}
+use Rattle.state.specs.declared.record.Sale.TheVariants.{Returned}
 use Rattle.state.specs.declared.record.Slot.{Slot}
 use Rattle.state.specs.declared.record.Slot.TheVariants.{Free, Open}
 use Rattle.pieces.specs.Memory.{word_at}

@@ -1,5 +1,5 @@
 -- What a train has.
-use Rattle.std.specs.Prelude.{ℕ, ◌-◌, Bool, true, false, ◌&&◌, Some, None, Option, nat_lt}
+use Rattle.std.specs.Prelude.{ℕ, ◌-◌, Bool, false, ◌&&◌, Some, None, Option, nat_lt}
 use Rattle.pieces.specs.declared.piece.Piece.{Piece}
 use Rattle.timetable.specs.declared.row.Row.{Row}
 

@@ -1,10 +1,7 @@
 -- A timetable as a function from trains to rows.
-use Rattle.std.specs.Prelude.{ℕ, Option}
-use Rattle.pieces.specs.declared.names.Train.{Train}
 use Rattle.std.specs.BTreeMap.{get}
 use Rattle.timetable.specs.Keys.{by_number}
 use Rattle.timetable.specs.Rows.{Table}
-use Rattle.timetable.specs.declared.row.Row.{Row}
 use Rattle.timetable.specs.declared.timetable.Timetable.{Timetable}
 
 abbrev pub table : Timetable → Table

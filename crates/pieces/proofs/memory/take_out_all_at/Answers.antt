@@ -1,4 +1,4 @@
-use Rattle.std.proofs.Common.{◌≡◌, ℕ, ◌+◌, ◌<◌, [], length, drop, sym, ap, ◌∙◌, arith, length-set}
+use Rattle.std.proofs.Common.{◌≡◌, ◌+◌, ◌<◌, [], length, drop, sym, ap, ◌∙◌, arith, length-set}
 use Rattle.pieces.proofs.memory.take_out_all_at.Goals as goal
 use Rattle.pieces.specs.Memory.{without_all}
 use Rattle.pieces.specs.declared.names.Seat.{Seat}

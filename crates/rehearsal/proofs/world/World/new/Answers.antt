@@ -1,4 +1,4 @@
-use Rattle.std.proofs.Common.{ℕ, length, vec_items, sym, refl, ap, ◌∙◌, subst, arith}
+use Rattle.std.proofs.Common.{ℕ, length, vec_items, sym, ap, ◌∙◌, subst, arith}
 use Rattle.rehearsal.proofs.Living.{Begun, begun_none, begun_next, begun_lives}
 use Rattle.rehearsal.specs.Lives.{Lives}
 use Rattle.state.specs.States.{begun}

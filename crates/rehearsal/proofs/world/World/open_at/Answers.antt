@@ -1,7 +1,7 @@
 use mathlib.Core.Logic.{∥∥₁_map}
-use Rattle.std.proofs.Common.{◌<◌, map, length, get_or, set, vec_items, sym, refl, ap, ◌∙◌, subst, arith}
+use Rattle.std.proofs.Common.{◌<◌, map, length, get_or, set, vec_items, sym, refl, ap, ◌∙◌, arith}
 use Rattle.ledger.specs.Calls.{ShortOpen}
-use Rattle.ledger.specs.Decisions.{decided_open, listing, after}
+use Rattle.ledger.specs.Decisions.{decided_open, after}
 use Rattle.rehearsal.proofs.Living.{opened_steps, opened_lives, here_is, at_post, states_are, journals_then}
 use Rattle.rehearsal.specs.Lives.{shown, nowhere}
 use Rattle.timetable.specs.Tables.{table}

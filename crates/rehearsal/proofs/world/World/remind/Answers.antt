@@ -1,8 +1,7 @@
 use mathlib.Core.Logic.{∥∥₁_map}
-use Rattle.std.proofs.Common.{◌≡◌, ◌<◌, ◌≤◌, [], length, is_ok, vec_items, sym, refl, ap, ◌∙◌, subst, append-nil, arith}
-use Rattle.network.specs.Worlds.{channel, none}
-use Rattle.rehearsal.proofs.Living.{here_is, pushed, said_or_not, remind_is, reminds_step, said_lives}
-use Rattle.rehearsal.specs.Lives.{shown}
+use Rattle.std.proofs.Common.{◌<◌, length, is_ok, vec_items, sym, refl, append-nil, arith}
+use Rattle.network.specs.Worlds.{none}
+use Rattle.rehearsal.proofs.Living.{pushed, said_or_not, remind_is, reminds_step, said_lives}
 use Rattle.rehearsal.proofs.world.World.remind.Goals as goal
 
 pub returns-in_default : goal.returns-in_default

@@ -1,9 +1,8 @@
-use Rattle.std.proofs.Common.{◌≡◌, ℕ, ◌<◌, length, vec_items, vec_len, sym, ap, ◌∙◌, subst, arith}
+use Rattle.std.proofs.Common.{◌<◌, length, vec_items, vec_len, sym, ap, ◌∙◌, subst, arith}
 use Rattle.network.specs.Worlds.{channel}
 use Rattle.rehearsal.proofs.Living.{here_is}
-use Rattle.rehearsal.proofs.Speaking.{gather_none, gather_more, spoken_none, spoken_as, spoken_then, state_same, reminded}
-use Rattle.rehearsal.specs.Lives.{shown}
-use Rattle.rehearsal.specs.Seen.{state_of, reminders_to, Spoken}
+use Rattle.rehearsal.proofs.Speaking.{gather_none, spoken_none, spoken_as, state_same, reminded}
+use Rattle.rehearsal.specs.Seen.{state_of, reminders_to}
 use Rattle.rehearsal.proofs.world.World.remind_all.Goals as goal
 
 pub loop-place-init : goal.loop-place-init

@@ -1,4 +1,4 @@
-use Rattle.std.proofs.Common.{◌≡◌, length}
+use Rattle.std.proofs.Common.{length}
 use Rattle.network.specs.Places.{gather}
 use Rattle.network.specs.Worlds.{channel}
 use Rattle.rehearsal.specs.Seen.{state_of, reminders_to, Spoken}

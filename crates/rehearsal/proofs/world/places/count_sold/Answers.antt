@@ -1,4 +1,4 @@
-use Rattle.std.proofs.Common.{◌≡◌, ℕ, cond, ap, arith}
+use Rattle.std.proofs.Common.{ℕ, cond, ap, arith}
 use Rattle.rehearsal.proofs.Finding.{sold_stands, sold_returned, sold_all}
 use Rattle.state.specs.Views.{view}
 use Rattle.rehearsal.proofs.world.places.count_sold.Goals as goal

@@ -1,4 +1,4 @@
-use Rattle.std.proofs.Common.{◌≡◌, ℕ, cond, ap, arith}
+use Rattle.std.proofs.Common.{ℕ, cond, ap, arith}
 use Rattle.giving.specs.Channels.{line}
 use Rattle.giving.specs.Posts.{chans}
 use Rattle.pieces.specs.Parts.{blank}

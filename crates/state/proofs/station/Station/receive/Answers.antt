@@ -1,4 +1,4 @@
-use Rattle.std.proofs.Common.{sym, ap, ◌∙◌, rules}
+use Rattle.std.proofs.Common.{ap, ◌∙◌, rules}
 use Rattle.state.specs.States.{State, is_open}
 use Rattle.state.specs.Views.{view}
 use Rattle.timetable.specs.Tables.{table}

@@ -1,4 +1,4 @@
-use Rattle.std.proofs.Common.{sym, ◌∙◌, arith, rules}
+use Rattle.std.proofs.Common.{sym, ◌∙◌, rules}
 use Rattle.state.specs.Views.{view}
 use Rattle.state.proofs.Opens.{ticket_within}
 use Rattle.state.proofs.station.Station.undo.Goals as goal
