@@ -1,4 +1,6 @@
 // Which seat is taken for a trip, and which seats for several people.
+#![tactic(auto)]
+
 ghost use Rattle.choosing.specs.Laws.{Choices};
 
 pub mod choice;

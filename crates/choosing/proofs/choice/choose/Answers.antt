@@ -16,20 +16,20 @@ seats-preserved c =
     let ordered : a < b = c.args.trip.ordered in
     let g = drawn_all f a b ss in
     elim c.match-leftover.branch [
-      | goal.in-Some+then-left-least+then-not-is-among+else-left-eq0 w ↦
+      | goal.in-Some+then-left-least+then-not-is_among+else-left-eq0 w ↦
           let found = w.in-Some.ensures in
           kept_as g a b _ w.best-is w.least-is
-          (kept_takes f ss a b ordered i c.seats.best c.seats.least w.in-Some.left c.seats.invariant (sym w.if-not-is-among.ensures) found.0 found.1 (omega (arith, w.if-left-least.true)))
+          (kept_takes f ss a b ordered i c.seats.best c.seats.least w.in-Some.left c.seats.invariant (sym w.if-not-is_among.ensures) found.0 found.1 (omega (arith, w.if-left-least.true)))
       | goal.in-Some+else-left-least w ↦
           let found = w.in-Some.ensures in
           kept_as g a b _ w.best-is w.least-is
           (elim w.else-left-least.branch [
-            | goal.else-left-least-via-then-left-least+else-not-is-among v ↦
-                kept_passes f ss a b ordered i c.seats.best c.seats.least c.seats.invariant (sym v.if-not-is-among.ensures)
+            | goal.else-left-least-via-then-left-least+else-not-is_among v ↦
+                kept_passes f ss a b ordered i c.seats.best c.seats.least c.seats.invariant (sym v.if-not-is_among.ensures)
             | goal.else-left-least-via-else-left-least v ↦
                 kept_keeps f ss a b ordered i c.seats.best c.seats.least c.seats.invariant (omega (arith, spare_lt (get_or ws i 0) a b ordered c.args.trip.near)) (omega (arith, found.1, v.if-left-least.false))
           ])
-      | goal.in-default w ↦ kept_as g a b _ w.best-is w.least-is (kept_skips f ss a b ordered i c.seats.best c.seats.least c.seats.invariant w.in-default.ensures)
+      | goal.in_default w ↦ kept_as g a b _ w.best-is w.least-is (kept_skips f ss a b ordered i c.seats.best c.seats.least c.seats.invariant w.in_default.ensures)
     ]
 
 pub returns-after-seats : goal.returns-after-seats
@@ -52,6 +52,6 @@ returns-then-left-eq0 c =
     let i = c.seats.seat in
     let ordered : a < b = c.args.trip.ordered in
     let found = c.in-Some.ensures in
-    let now = kept_takes f ss a b ordered i c.seats.best c.seats.least c.in-Some.left c.seats.invariant (sym c.if-not-is-among.ensures) found.0 found.1 (omega (arith, c.if-left-least.true)) in
+    let now = kept_takes f ss a b ordered i c.seats.best c.seats.least c.in-Some.left c.seats.invariant (sym c.if-not-is_among.ensures) found.0 found.1 (omega (arith, c.if-left-least.true)) in
     let h = kept_stops f ss a b ordered i (length ws) c.in-Some.left c.seats-test.true now (omega (arith, c.if-left-eq0.true)) in
     record { value = chosen_one (drawn_all f a b ss) (length ws) a b _ h; best = h }
