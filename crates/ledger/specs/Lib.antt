@@ -1,2 +1,4 @@
 pub mod Decisions
 pub mod Calls
+pub mod Judging
+pub mod Laws

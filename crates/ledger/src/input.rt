@@ -1,17 +1,27 @@
 // What a station is asked, and what a call came to.
+use choosing::party::Party;
 use giving::ids::{Number, StationId, Ticket};
 use giving::refusal::Refusal;
-use pieces::names::Train;
+use pieces::names::{Stop, Train};
 use pieces::piece::Piece;
 use state::record::Record;
+
+// A trip that so many people want, in bare numbers: it may be none.
+#[derive(Clone, Copy, Drop)]
+pub struct Demand {
+    pub train: Train,
+    pub from: Stop,
+    pub to: Stop,
+    pub people: u8,
+}
 
 // What a station is asked at its counter, or told by another.
 #[derive(Clone, Copy, Drop)]
 pub enum Input {
     Close(Train),
-    Sell(Piece),
+    Sell(Demand),
     Undo(Ticket),
-    Give(StationId, Piece),
+    Give(StationId, Demand),
     Take(StationId, Number, Piece),
     Hear(StationId, Number),
 }
@@ -20,7 +30,9 @@ pub enum Input {
 #[derive(Clone, Copy, Drop)]
 pub enum Outcome {
     Done(Record),
-    // there was nothing to do: heard before, or nothing held that could be given
+    // the pieces of a party were given to a station, under the numbers from this one on; there may be none
+    Gave(StationId, Number, Party),
+    // there was nothing to do: it was heard before
     Nothing,
     // passed over, by the number of the refusal
     Passed(Refusal),

@@ -1,4 +1,5 @@
 // What a station writes down, and what its state is made of.
+use choosing::party::Party;
 use giving::ids::{Number, StationId, Ticket};
 use pieces::names::Train;
 use pieces::piece::Piece;
@@ -8,7 +9,7 @@ use pieces::piece::Piece;
 pub enum Record {
     Opened(Train),
     Closed(Train),
-    Sold(Ticket, Piece),
+    Sold(Ticket, Party),
     Undone(Ticket),
     // given to a station, under a number
     Given(StationId, Number, Piece),
@@ -28,6 +29,6 @@ pub enum Slot {
 // A ticket: it stands, or it was undone, or its train was closed.
 #[derive(Clone, Copy, Drop)]
 pub enum Sale {
-    Stands(Piece),
+    Stands(Party),
     Returned,
 }
