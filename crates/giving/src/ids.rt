@@ -1,5 +1,5 @@
 // Numbers that are kept apart.
-ghost use Rattle.std.specs.Prelude.{◌≡◌, ◌+◌, ltb, if◌then◌else◌, Some, None};
+ghost use Rattle.std.specs.Prelude.{◌≡◌, ◌+◌, nat_lt, if◌then◌else◌, Some, None};
 
 // A station, from 0.
 #[derive(Clone, Copy, Drop)]
@@ -12,7 +12,7 @@ pub struct Number(pub u32);
 impl Number {
     // The number after this one, if there is one.
     pub fn next(self) -> Option<Number>
-        ensures { result ≡ (if ltb self.0 4294967295 then Some (record { 0 = self.0 + 1 }) else None) }
+        ensures { result ≡ (if nat_lt self.0 4294967295 then Some (record { 0 = self.0 + 1 }) else None) }
     {
         if self.0 < u32::MAX {
             Some(Number(self.0 + 1))

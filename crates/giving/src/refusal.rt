@@ -4,13 +4,13 @@ ghost use Rattle.giving.specs.Refusals.{number};
 
 #[derive(Clone, Copy, Drop)]
 pub enum Refusal {
-    // a stop or a seat that the train has not, a stretch that is none, nobody or more than eight, or more acknowledged than was given
+    // a stop or a seat that the train has not, or more acknowledged than was given
     Malformed,
     // a number that is not the next
     OutOfTurn,
     // a train that is not open; for an opening, one that is or was
     NotOpen,
-    // fewer seats held for that trip than people
+    // nothing held for that trip
     NothingHeld,
     NoSuchTicket,
     // no place for a train, a number or a piece that waits

@@ -1,272 +1,121 @@
 -- What is decided may be written.
 -- Assumes nothing.
-use Rattle.std.proofs.Common.{◌≡◌, ℕ, suc, ◌+◌, ◌≤◌, min, Bool, true, false, cond, not, ◌&&◌, ◌||◌, eqb, ltb, leb, List, [], ◌∷◌, map, length, set, Some, None, Option, Less, Equal, Greater, sym, refl, ap, subst, arith, length-append, length-set, get_or-set_same}
-use Rattle.choosing.specs.Parties.{below, party_of, seats_of, some}
-use Rattle.choosing.specs.declared.party.Party.{Party}
-use Rattle.giving.proofs.Waiting.{waiting_set}
-use Rattle.giving.specs.Calls.{givable, next_number, room}
-use Rattle.giving.specs.Channels.{Chan, all_waiting, fresh, gave, stands, line, roomy, numbered, other, news}
-use Rattle.giving.specs.declared.ids.Number.{Number}
-use Rattle.giving.specs.declared.ids.StationId.{StationId}
-use Rattle.giving.specs.declared.ids.Ticket.{Ticket}
+use Rattle.std.proofs.Common.{◌≡◌, ℕ, ◌+◌, Bool, true, false, cond, not, ◌&&◌, ◌||◌, eqb, leb, Some, None, Option, Less, Equal, Greater, refl, subst, arith}
+use Rattle.giving.specs.Channels.{Chan, stands, line, roomy, numbered, other, news}
 use Rattle.giving.specs.declared.refusal.Refusal.{Refusal}
-use Rattle.giving.specs.declared.refusal.Refusal.TheVariants.{Full, Malformed, NoSuchStation, NoSuchTicket, NotOpen, NothingHeld, OutOfTurn}
-use Rattle.choosing.proofs.Groups.{group_most, group_below, group_covered, party_seats}
-use Rattle.ledger.specs.Calls.{Numbered}
-use Rattle.ledger.specs.Decisions.{unless, judged, turned, seats_for, selling, offering, decided, decided_open, listing, gifts, records, DecidedFits}
-use Rattle.ledger.specs.declared.input.Demand.{Demand}
+use Rattle.ledger.specs.Decisions.{unless, judged, turned, decided, decided_open, listing, DecidedFits}
 use Rattle.ledger.specs.declared.input.Input.{Input}
 use Rattle.ledger.specs.declared.input.Input.TheVariants.{Close, Sell, Undo, Give, Take, Hear}
 use Rattle.ledger.specs.declared.input.Outcome.{Outcome}
-use Rattle.ledger.specs.declared.input.Outcome.TheVariants.{Done, Gave, Nothing, Passed, Refused}
-use Rattle.pieces.specs.Memory.{covered_all, word_at, without}
-use Rattle.pieces.specs.Parts.{piece_of, trip_from}
-use Rattle.pieces.specs.Stretches.{covered}
-use Rattle.pieces.specs.declared.names.Seat.{Seat}
-use Rattle.pieces.specs.declared.names.Train.{Train}
-use Rattle.pieces.specs.declared.trip.Trip.{Trip}
-use Rattle.state.specs.Changes.{all_fit, apply, fits, listed_all, returnable}
-use Rattle.state.specs.States.{State, is_open, known, openable, place, tickets_left, sold, ticket_of}
+use Rattle.ledger.specs.declared.input.Outcome.TheVariants.{Done, Nothing, Passed, Refused}
+use Rattle.pieces.specs.declared.piece.Piece.{Piece}
+use Rattle.state.specs.Changes.{fits, returnable}
+use Rattle.state.specs.States.{State, is_open, known, openable, holds_piece, tickets_left, sold, ticket_of}
 use Rattle.state.specs.declared.record.Record.{Record}
 use Rattle.state.specs.declared.record.Record.TheVariants.{Opened, Closed, Sold, Undone, Given, Taken, Heard}
-use Rattle.std.proofs.lemmas.Bool.{and_from, and_parts, eq-eqb, lt-ltb, ltb-true}
-use Rattle.std.proofs.lemmas.Bool.Decides.{nat_tests}
+use Rattle.std.proofs.lemmas.Bool.{and_from, and_parts, eq-eqb}
 use Rattle.timetable.specs.Additions.{admitted}
-use Rattle.timetable.specs.Rows.{Table, listed}
+use Rattle.timetable.specs.Rows.{Table, listed, within}
 use Rattle.timetable.specs.declared.row.Row.{Row}
 
--- ---- what holds of each outcome of a chain of grounds
+-- ---- the grounds of what is done
 
-module _ (P : Outcome → Type 0) (refused : (r : Refusal) → P (Refused r)) where
-  unless_by : (b : Bool) (r : Refusal) (o : Outcome) → (b ≡ true → P o) → P (unless b r o)
-  unless_by true r o h = h refl
-  unless_by false r o h = refused r
+same_record : (d e : Record) → Done d ≡ Done e → d ≡ e
+same_record d e h = cc
 
-  judged_by : (w : Option Row) (x : Option Trip) (m : ℕ) (b : Bool) (k : Row → Trip → Outcome)
-      → ((r : Row) (t : Trip) → w ≡ Some r → some m ≡ true → ltb t.to.0 r.stops ≡ true → b ≡ true → P (k r t)) → P (judged w x m b k)
-  judged_by None None m b k h = refused Malformed
-  judged_by (Some r) None m b k h = refused Malformed
-  judged_by None (Some t) m b k h = unless_by (some m) Malformed (Refused NotOpen) (λ _. refused NotOpen)
-  judged_by (Some r) (Some t) m b k h =
-      unless_by (some m && ltb t.to.0 r.stops) Malformed _ (λ e.
-      let (f, g) = and_parts (some m) (ltb t.to.0 r.stops) e in
-      unless_by b NotOpen _ (λ d. h r t refl f g d))
+refused_not : (r : Refusal) (e : Record) {A : Type 0} → Refused r ≡ Done e → A
+refused_not r e h = let z : ◌≡◌ {A = ℕ} 0 1 = cc in absurd (omega arith)
 
-  turned_by : (c : Chan) (n : ℕ) (o : Outcome) → ((r : Refusal) → P (Passed r)) → (eqb n (c.taken + 1) ≡ true → P o) → P (turned (stands c n) o)
-  turned_by c n o q h = go (leb n c.taken) (eqb n (c.taken + 1)) refl
-    where
-      go : (a b : Bool) → eqb n (c.taken + 1) ≡ b → P (turned (cond a Less (cond b Equal Greater)) o)
-      go true b f = q OutOfTurn
-      go false true f = h f
-      go false false f = q OutOfTurn
+unless_done : (b : Bool) (r : Refusal) (o : Outcome) (e : Record) → unless b r o ≡ Done e → (b ≡ true) × (o ≡ Done e)
+unless_done true r o e h = (refl, h)
+unless_done false r o e h = refused_not r e h
 
-  cond_by : (b : Bool) (o q : Outcome) → (b ≡ true → P o) → P q → P (cond b o q)
-  cond_by true o q h g = h refl
-  cond_by false o q h g = g
+if_done : (b : Bool) (d : Record) (o : Outcome) (e : Record) → (o ≡ Done e → ⊥) → cond b (Done d) o ≡ Done e → (b ≡ true) × (d ≡ e)
+if_done true d o e n h = (refl, same_record d e h)
+if_done false d o e n h = absurd (n h)
 
--- ---- a sale
+nothing_not : (e : Record) → Nothing ≡ Done e → ⊥
+nothing_not e h = let z : ◌≡◌ {A = ℕ} 0 1 = cc in absurd (omega arith)
 
-enough : (m l : ℕ) → some m ≡ true → leb m l ≡ true → l ≤ m → some l ≡ true
-enough m l h g e = let (a, b) = and_parts (leb 1 m) (leb m 8) h in grind (arith, nat_tests)
+passed_not : (r : Refusal) (e : Record) → Passed r ≡ Done e → ⊥
+passed_not r e h = let z : ◌≡◌ {A = ℕ} 0 1 = cc in absurd (omega arith)
 
-pub few : (m : ℕ) → some m ≡ true → m ≤ 8
-few m h = let (a, b) = and_parts (leb 1 m) (leb m 8) h in grind (arith, nat_tests)
+judged_done : (w : Option Row) (p : Piece) (b : Bool) (o : Outcome) (e : Record) → judged w p b o ≡ Done e → (listed w p ≡ true) × (b ≡ true) × (o ≡ Done e)
+judged_done None p b o e h = refused_not _ e h
+judged_done (Some r) p b o e h = let (x, g) = unless_done (within r p) _ _ e h in let (y, f) = unless_done b _ o e g in (x, y, f)
 
-listed_party : (w : Option Row) (r : Row) (p : Party) → w ≡ Some r → ltb p.trip.to.0 r.stops ≡ true → below r.seats (seats_of p) ≡ true → listed_all w p ≡ true
-listed_party w r p e a b = subst (λ o. listed_all o p ≡ true) (sym e) (and_from _ _ a b)
-
-module _ (tb : Table) (s : State) (z : Train) (m : ℕ) (r : Row) (t : Trip) where
-  module _ (w : tb z.0 ≡ Some r) (h : some m ≡ true) (l : ltb t.to.0 r.stops ≡ true) (o : is_open s z ≡ true) where
-    -- the seats for as many people, or fewer
-    module _ (k : ℕ) (u : k ≤ m) where
-      is : seats_of (party_of z t (seats_for s z r t k)) ≡ seats_for s z r t k
-      is =
-          let g = group_most k (word_at s.words (place s z)) r.seats t.from.0 t.to.0 in
-          let f = few m h in
-          party_seats z t (seats_for s z r t k) (omega arith)
-
-      kept : covered_all s.words (place s z) (seats_for s z r t k) t.from.0 t.to.0 ≡ true
-      kept = group_covered s.words (place s z) k r.seats t.from.0 t.to.0 r.few t.ordered
-
-    sale : leb m (length (seats_for s z r t m)) ≡ true → tickets_left s ≡ true → fits tb s (Sold (record { 0 = sold s + 1 }) (party_of z t (seats_for s z r t m))) ≡ true
-    sale g d =
-        let p = party_of z t (seats_for s z r t m) in
-        let e = sym (is m (omega arith)) in
-        and_from _ _ (subst (λ ss. some (length ss) ≡ true) e (enough m (length (seats_for s z r t m)) h g (group_most m (word_at s.words (place s z)) r.seats t.from.0 t.to.0)))
-        (and_from _ _ (listed_party (tb z.0) r p w l (subst (λ ss. below r.seats ss ≡ true) e (group_below m (word_at s.words (place s z)) r.seats t.from.0 t.to.0)))
-        (and_from _ _ o
-        (and_from _ _ (subst (λ ss. covered_all s.words (place s z) ss t.from.0 t.to.0 ≡ true) e (kept m (omega arith)))
-        (and_from _ _ d (eq-eqb (sold s + 1) (sold s + 1) refl)))))
-
--- ---- pieces given one after the other
-
-listed_one : (w : Option Row) (r : Row) (z : Train) (s : Seat) (t : Trip) → w ≡ Some r → ltb s.0 r.seats ≡ true → ltb t.to.0 r.stops ≡ true → listed w (piece_of z s t) ≡ true
-listed_one w r z s t e a b = subst (λ o. listed o (piece_of z s t) ≡ true) (sym e) (and_from _ _ a b)
-
-module _ (tb : Table) (to : StationId) (z : Train) (t : Trip) (r : Row) (w : tb z.0 ≡ Some r) (l : ltb t.to.0 r.stops ≡ true) where
-  gifts_fit : (ss : List Seat) (x : State) (n : ℕ) → below r.seats ss ≡ true → is_open x z ≡ true → covered_all x.words (place x z) ss t.from.0 t.to.0 ≡ true
-      → all_waiting x.channels + length ss ≤ 4096 → (line x.channels to.0).given + length ss ≤ 4294967295 → other x.me x.channels to.0 ≡ true
-      → n ≡ (line x.channels to.0).given + 1 → all_fit tb x (gifts to n (map (λ (s : Seat). piece_of z s t) ss)) ≡ true
-  gifts_fit [] x n b o c v u a e = refl
-  gifts_fit (s ∷ ss) x n b o c v u a e =
-      let p = piece_of z s t in
-      let k = line x.channels to.0 in
-      let (b0, b1) = and_parts (ltb s.0 r.seats) (below r.seats ss) b in
-      let (c0, c1) = and_parts (ltb s.0 400 && covered (word_at x.words (place x z) s.0) t.from.0 t.to.0) (covered_all (without x.words (place x z) s.0 t.from.0 t.to.0) (place x z) ss t.from.0 t.to.0) c in
-      let (a0, a1) = and_parts (ltb to.0 (length x.channels)) (not (eqb to.0 x.me)) a in
-      let i = ltb-true to.0 (length x.channels) a0 in
-      let q = waiting_set x.channels to.0 (gave k p) i in
-      let y = length-append k.waiting (p ∷ []) in
-      let g : line (set x.channels to.0 (gave k p)) to.0 ≡ gave k p = get_or-set_same x.channels to.0 (gave k p) fresh i in
-      let d : (line (set x.channels to.0 (gave k p)) to.0).given ≡ k.given + 1 = ap (λ (j : Chan). j.given) g in
-      and_from _ _
-      (and_from _ _ (listed_one (tb z.0) r z s t w b0 l)
-      (and_from _ _ o
-      (and_from _ _ c0
-      (and_from _ _ (lt-ltb (all_waiting x.channels) 4096 (omega arith))
-      (and_from _ _ (lt-ltb k.given 4294967295 (omega arith))
-      (and_from _ _ a (eq-eqb n (k.given + 1) e)))))))
-      (gifts_fit ss (apply tb x (Given to (record { 0 = n }) p)) (suc n) b1 o c1
-      (omega arith) (omega arith)
-      (and_from _ _ (subst (λ (j : ℕ). ltb to.0 j ≡ true) (sym (length-set x.channels to.0 (gave k p))) a0) a1)
-      (omega arith))
+turned_done : (c : Chan) (n : ℕ) (o : Outcome) (e : Record) → turned (stands c n) o ≡ Done e → (eqb n (c.taken + 1) ≡ true) × (o ≡ Done e)
+turned_done c n o e h = go (leb n c.taken) (eqb n (c.taken + 1)) refl h
+  where
+    go : (a b : Bool) → eqb n (c.taken + 1) ≡ b → turned (cond a Less (cond b Equal Greater)) o ≡ Done e → (eqb n (c.taken + 1) ≡ true) × (o ≡ Done e)
+    go true b f g = absurd (passed_not _ e g)
+    go false true f g = (f, g)
+    go false false f g = absurd (passed_not _ e g)
 
 -- ---- each call
 
 -- the record that a call writes, where it writes one
-abbrev pub Tells : Input → Record → Type 0
-Tells (Close t) e = Closed t ≡ e
-Tells (Sell d) e = (n : Ticket) × (p : Party) × (Sold n p ≡ e)
-Tells (Undo n) e = Undone n ≡ e
-Tells (Give to d) e = ⊥
-Tells (Take from n p) e = Taken from n p ≡ e
-Tells (Hear from n) e = Heard from n ≡ e
+abbrev pub record_of : State → Input → Record
+record_of s (Close t) = Closed t
+record_of s (Sell p) = Sold (record { 0 = sold s + 1 }) p
+record_of s (Undo n) = Undone n
+record_of s (Give to p) = Given to (record { 0 = (line s.channels to.0).given + 1 }) p
+record_of s (Take from n p) = Taken from n p
+record_of s (Hear from n) = Heard from n
 
--- what it says that pieces were given
-abbrev pub Gives : State → Input → StationId → Number → Party → Type 0
-Gives s i to n p = (d : Demand) × (i ≡ Give to d) × (n ≡ next_number s.channels to.0) × (other s.me s.channels to.0 ≡ true) × Numbered (Gave to n p)
+module _ (tb : Table) (s : State) (e : Record) where
+  abbrev Writes : Input → Type 0
+  Writes i = (record_of s i ≡ e) × (fits tb s (record_of s i) ≡ true)
 
-abbrev Sound : Table → State → Input → Outcome → Type 0
-Sound tb s i (Done e) = Tells i e × (fits tb s e ≡ true)
-Sound tb s i (Gave to n p) = Gives s i to n p × (all_fit tb s (gifts to n.0 (map (λ (x : Seat). piece_of p.train x p.trip) (seats_of p))) ≡ true)
-Sound tb s i Nothing = Unit
-Sound tb s i (Passed r) = Unit
-Sound tb s i (Refused r) = Unit
+  writes : (i : Input) → decided tb s i ≡ Done e → Writes i
+  writes (Close t) h = let (o, g) = unless_done (is_open s t) _ _ e h in (same_record _ e g, o)
+  writes (Sell p) h =
+      let (l, o, g) = judged_done (tb p.train.0) p (is_open s p.train) _ e h in
+      let (a, f) = unless_done (holds_piece s p) _ _ e g in
+      let (b, d) = unless_done (tickets_left s) _ _ e f in
+      (same_record _ e d, and_from _ _ l (and_from _ _ o (and_from _ _ a (and_from _ _ b (eq-eqb (sold s + 1) (sold s + 1) refl)))))
+  writes (Undo n) h = let (o, g) = unless_done (returnable tb s (ticket_of s n.0)) _ _ e h in (same_record _ e g, o)
+  writes (Give to p) h =
+      let (l, o, g) = judged_done (tb p.train.0) p (is_open s p.train) _ e h in
+      let (a, f) = unless_done (roomy s.channels && numbered (line s.channels to.0)) _ _ e g in
+      let (b, d) = unless_done (other s.me s.channels to.0) _ _ e f in
+      let (k, c) = if_done (holds_piece s p) _ Nothing e (nothing_not e) d in
+      let (x, y) = and_parts (roomy s.channels) (numbered (line s.channels to.0)) a in
+      (c, and_from _ _ l (and_from _ _ o (and_from _ _ k (and_from _ _ x (and_from _ _ y (and_from _ _ b (eq-eqb ((line s.channels to.0).given + 1) ((line s.channels to.0).given + 1) refl)))))))
+  writes (Take from n p) h =
+      let (l, g) = unless_done (listed (tb p.train.0) p) _ _ e h in
+      let (a, f) = unless_done (other s.me s.channels from.0) _ _ e g in
+      let (b, d) = turned_done (line s.channels from.0) n.0 _ e f in
+      let (k, c) = if_done (known s p.train || openable s) _ (Passed _) e (passed_not _ e) d in
+      (c, and_from _ _ l (and_from _ _ a (and_from _ _ b k)))
+  writes (Hear from n) h =
+      let (a, f) = unless_done (other s.me s.channels from.0) _ _ e h in
+      let (b, d) = unless_done (leb n.0 (line s.channels from.0).given) _ _ e f in
+      let (k, c) = if_done (news (line s.channels from.0) n.0) _ Nothing e (nothing_not e) d in
+      (c, and_from _ _ a k)
 
-module _ (tb : Table) (s : State) where
-  offers : (to : StationId) (d : Demand) (r : Row) (t : Trip) → tb d.train.0 ≡ Some r → some d.people ≡ true → ltb t.to.0 r.stops ≡ true → is_open s d.train ≡ true
-      → givable s.channels to.0 ≡ true → other s.me s.channels to.0 ≡ true
-      → Sound tb s (Give to d) (Gave to (next_number s.channels to.0) (party_of d.train t (seats_for s d.train r t (min d.people (room s.channels to.0)))))
-  offers to d r t w h l o g a =
-      let z = d.train in
-      let k = min d.people (room s.channels to.0) in
-      let ss = seats_for s z r t k in
-      let e : seats_of (party_of z t ss) ≡ ss = is tb s z d.people r t w h l o k (omega arith) in
-      let q = group_most k (word_at s.words (place s z)) r.seats t.from.0 t.to.0 in
-      let (g0, g1) = and_parts (roomy s.channels) (numbered (line s.channels to.0)) g in
-      let x = ltb-true (all_waiting s.channels) 4096 g0 in
-      let y = ltb-true (line s.channels to.0).given 4294967295 g1 in
-      let c = ap (λ (xs : List Seat). length xs) e in (
-        (d, refl, refl, a, omega arith),
-        subst (λ (xs : List Seat). all_fit tb s (gifts to ((line s.channels to.0).given + 1) (map (λ (v : Seat). piece_of z v t) xs)) ≡ true) (sym e)
-            (gifts_fit tb to z t r w l ss s ((line s.channels to.0).given + 1) (group_below k (word_at s.words (place s z)) r.seats t.from.0 t.to.0) o
-            (kept tb s z d.people r t w h l o k (omega arith)) (omega arith) (omega arith) a refl),
-      )
+  pub decided_is : (i : Input) → decided tb s i ≡ Done e → record_of s i ≡ e
+  decided_is i h = (writes i h).0
 
-  sound : (i : Input) → Sound tb s i (decided tb s i)
-  sound (Close t) = unless_by (Sound tb s (Close t)) (λ _. tt) (is_open s t) NotOpen (Done (Closed t)) (λ o. (refl, o))
-  sound (Sell d) =
-      let P = Sound tb s (Sell d) in
-      judged_by P (λ _. tt) (tb d.train.0) (trip_from d.from d.to) d.people (is_open s d.train) (selling s d.train d.people) (λ r t w h l o.
-      unless_by P (λ _. tt) (leb d.people (length (seats_for s d.train r t d.people))) NothingHeld _ (λ g.
-      unless_by P (λ _. tt) (tickets_left s) Full _ (λ x.
-      ((_, _, refl), sale tb s d.train d.people r t w h l o g x))))
-  sound (Undo n) = unless_by (Sound tb s (Undo n)) (λ _. tt) (returnable tb s (ticket_of s n.0)) NoSuchTicket (Done (Undone n)) (λ o. (refl, o))
-  sound (Give to d) =
-      let P = Sound tb s (Give to d) in
-      judged_by P (λ _. tt) (tb d.train.0) (trip_from d.from d.to) d.people (is_open s d.train) (offering s to d.train d.people) (λ r t w h l o.
-      unless_by P (λ _. tt) (givable s.channels to.0) Full _ (λ g.
-      unless_by P (λ _. tt) (other s.me s.channels to.0) NoSuchStation _ (λ a.
-      offers to d r t w h l o g a)))
-  sound (Take from n p) =
-      let P = Sound tb s (Take from n p) in
-      unless_by P (λ _. tt) (listed (tb p.train.0) p) Malformed _ (λ l.
-      unless_by P (λ _. tt) (other s.me s.channels from.0) NoSuchStation _ (λ a.
-      turned_by P (λ _. tt) (line s.channels from.0) n.0 _ (λ _. tt) (λ b.
-      cond_by P (λ _. tt) (known s p.train || openable s) (Done (Taken from n p)) (Passed Full) (λ k. (refl, and_from _ _ l (and_from _ _ a (and_from _ _ b k)))) tt)))
-  sound (Hear from n) =
-      let P = Sound tb s (Hear from n) in
-      unless_by P (λ _. tt) (other s.me s.channels from.0) NoSuchStation _ (λ a.
-      unless_by P (λ _. tt) (leb n.0 (line s.channels from.0).given) Malformed _ (λ b.
-      cond_by P (λ _. tt) (news (line s.channels from.0) n.0) (Done (Heard from n)) Nothing (λ k. (refl, and_from _ _ a k)) tt))
-
-  sound_fits : (i : Input) (o : Outcome) → Sound tb s i o → all_fit tb s (records o) ≡ true
-  sound_fits i (Done e) h = and_from _ _ h.1 refl
-  sound_fits i (Gave to n p) h = h.1
-  sound_fits i Nothing h = refl
-  sound_fits i (Passed r) h = refl
-  sound_fits i (Refused r) h = refl
-
-  pub decided_fits : (i : Input) → all_fit tb s (records (decided tb s i)) ≡ true
-  decided_fits i = sound_fits i (decided tb s i) (sound i)
-
-  pub told_is : (i : Input) (e : Record) → decided tb s i ≡ Done e → Tells i e
-  told_is i e h = (subst (Sound tb s i) h (sound i)).0
-
-  pub gave_is : (i : Input) (to : StationId) (n : Number) (p : Party) → decided tb s i ≡ Gave to n p → Gives s i to n p
-  gave_is i to n p h = (subst (Sound tb s i) h (sound i)).0
-
-  -- there is a number for each piece that is given
-  sound_numbered : (i : Input) (o : Outcome) → Sound tb s i o → Numbered o
-  sound_numbered i (Done e) h = tt
-  sound_numbered i (Gave to n p) h = h.0.4
-  sound_numbered i Nothing h = tt
-  sound_numbered i (Passed r) h = tt
-  sound_numbered i (Refused r) h = tt
-
-  pub decided_numbered : (i : Input) → Numbered (decided tb s i)
-  decided_numbered i = sound_numbered i (decided tb s i) (sound i)
-
--- ---- opening
-
-abbrev Opens : Table → State → Row → Outcome → Type 0
-Opens tb s r (Done e) = (Opened r.train ≡ e) × (admitted (tb r.train.0) r ≡ true) × (not (known s r.train) ≡ true) × (openable s ≡ true)
-Opens tb s r (Gave to n p) = ⊥
-Opens tb s r Nothing = ⊥
-Opens tb s r (Passed q) = ⊥
-Opens tb s r (Refused q) = Unit
-
-opens : (tb : Table) (s : State) (r : Row) → Opens tb s r (decided_open tb s r)
-opens tb s r =
-    unless_by (Opens tb s r) (λ _. tt) (admitted (tb r.train.0) r) Malformed _ (λ a.
-    unless_by (Opens tb s r) (λ _. tt) (not (known s r.train)) NotOpen _ (λ b.
-    unless_by (Opens tb s r) (λ _. tt) (openable s) Full (Done (Opened r.train)) (λ c. (refl, a, b, c))))
+  pub decided_fits : (i : Input) → decided tb s i ≡ Done e → fits tb s e ≡ true
+  decided_fits i h = let (a, b) = writes i h in subst (λ x. fits tb s x ≡ true) a b
 
 pub opens_is : (tb : Table) (s : State) (r : Row) (e : Record) → decided_open tb s r ≡ Done e → Opened r.train ≡ e
-opens_is tb s r e h = (subst (Opens tb s r) h (opens tb s r)).0
-
--- nothing is given by it
-pub opens_gives : (tb : Table) (s : State) (r : Row) (to : StationId) (n : Number) (p : Party) → decided_open tb s r ≡ Gave to n p → ⊥
-opens_gives tb s r to n p h = subst (Opens tb s r) h (opens tb s r)
+opens_is tb s r e h =
+    let (a, g) = unless_done (admitted (tb r.train.0) r) _ _ e h in
+    let (b, f) = unless_done (not (known s r.train)) _ _ e g in
+    let (c, d) = unless_done (openable s) _ _ e f in
+    same_record _ e d
 
 pub opens_admitted : (tb : Table) (s : State) (r : Row) (e : Record) → decided_open tb s r ≡ Done e → admitted (tb r.train.0) r ≡ true
-opens_admitted tb s r e h = (subst (Opens tb s r) h (opens tb s r)).1
+opens_admitted tb s r e h = (unless_done (admitted (tb r.train.0) r) _ _ e h).0
 
--- the record of an opening fits
-pub opens_one : (tb : Table) (s : State) (r : Row) (e : Record) → decided_open tb s r ≡ Done e → fits (listing tb r (Done e)) s e ≡ true
-opens_one tb s r e h =
-    let (a, _, b, c) = subst (Opens tb s r) h (opens tb s r) in
-    subst (λ x. fits (listing tb r (Done e)) s x ≡ true) a (and_from _ _ (rw (eq-eqb r.train.0 r.train.0 refl) refl) (and_from _ _ b c))
+pub opens_fits : (tb : Table) (s : State) (r : Row) (e : Record) → decided_open tb s r ≡ Done e → fits (listing tb r (Done e)) s e ≡ true
+opens_fits tb s r e h =
+    let (a, g) = unless_done (admitted (tb r.train.0) r) _ _ e h in
+    let (b, f) = unless_done (not (known s r.train)) _ _ e g in
+    let (c, d) = unless_done (openable s) _ _ e f in
+    subst (λ x. fits (listing tb r (Done e)) s x ≡ true) (same_record _ e d) (and_from _ _ (rw (eq-eqb r.train.0 r.train.0 refl) refl) (and_from _ _ b c))
 
-pub opens_fits : (tb : Table) (s : State) (r : Row) → all_fit (listing tb r (decided_open tb s r)) s (records (decided_open tb s r)) ≡ true
-opens_fits tb s r = go (decided_open tb s r) refl
-  where
-    go : (o : Outcome) → decided_open tb s r ≡ o → all_fit (listing tb r o) s (records o) ≡ true
-    go (Done e) h = and_from _ _ (opens_one tb s r e h) refl
-    go (Gave to n p) h = absurd (subst (Opens tb s r) h (opens tb s r))
-    go Nothing h = refl
-    go (Passed q) h = refl
-    go (Refused q) h = refl
-
-pub decisions_fit : DecidedFits
-decisions_fit = (decided_fits, opens_fits)
+pub all_fit : DecidedFits
+all_fit = (λ tb s i e h. decided_fits tb s e i h, opens_fits)

@@ -1,4 +1,2 @@
 pub mod Decisions
 pub mod Calls
-pub mod Judging
-pub mod Laws

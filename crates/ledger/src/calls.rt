@@ -1,65 +1,49 @@
 // The calls of a station. What is decided is written to the journal, then done, and then said.
 // All memory for it is found first: for want of it nothing is changed.
-ghost use Rattle.std.specs.Prelude.{◌≡◌, ◌+◌, ◌<◌, ◌≤◌, true, false, [], ◌∷◌, ◌++◌, length, vec_len, vec_capacity, fold, MatchResult};
-ghost use Rattle.choosing.specs.Parties.{pieces_of, seats_of};
+ghost use Rattle.std.specs.Prelude.{◌≡◌, ◌<◌, true, false, [], ◌∷◌, ◌++◌, vec_len, vec_capacity, MatchResult};
 ghost use Rattle.giving.specs.declared.refusal.Refusal.TheVariants.{Memory};
-ghost use Rattle.ledger.specs.Calls.{Filled, Numbered, ReadyFor, Short, ShortOpen, Unwritten};
-ghost use Rattle.ledger.specs.Decisions.{after, decided, decided_open, for_memory, gifts, listing, messages, records, DecidedFits};
-ghost use Rattle.ledger.specs.Laws.{SellsBack};
-ghost use Rattle.state.specs.Changes.{all_fit, apply, fits};
+ghost use Rattle.ledger.specs.Calls.{Short, ShortOpen, Unsaid, Unwritten, said};
+ghost use Rattle.ledger.specs.Decisions.{after, decided, decided_open, for_memory, listing, messages, records, DecidedFits};
+ghost use Rattle.ledger.specs.declared.input.Outcome.TheVariants.{Done};
+ghost use Rattle.state.specs.Changes.{apply, fits};
 ghost use Rattle.state.specs.Ready.{Ready};
 ghost use Rattle.state.specs.Views.{view};
+ghost use Rattle.state.specs.declared.record.Record.{Record as Entry};
 ghost use Rattle.timetable.specs.Tables.{table as rows_of};
 
 use crate::decide::{decide, decide_open};
 use crate::input::{Input, Outcome};
-use crate::reply::{said_count, say};
-use choosing::party::Party;
-use giving::ids::{Number, StationId};
+use crate::reply::{is_said, reply};
 use giving::message::Message;
 use giving::refusal::Refusal;
-use pieces::piece::Piece;
 use state::record::Record;
 use state::station::Station;
 use timetable::row::Row;
 use timetable::timetable::Timetable;
 
 // Finds the memory for what is said.
-fn make_room(out: &mut Vec<Message>, count: usize) -> Result<(), Refusal>
+fn make_room(out: &mut Vec<Message>, input: Input, outcome: Outcome) -> Result<(), Refusal>
     ensures same { out.new.items ≡ out.old.items }
-    ensures cases { MatchResult result (λ _. vec_len out.new + count ≤ vec_capacity out.new) (λ e. (e ≡ Memory) × Filled out.old count) }
+    ensures cases { MatchResult result (λ _. said input outcome ≡ true → vec_len out.new < vec_capacity out.new) (λ e. (e ≡ Memory) × Unsaid out.old input outcome) }
 {
-    if out.reserve(count).is_err() {
+    if is_said(input, outcome) && out.reserve(1).is_err() {
         return Err(Refusal::Memory);
     }
     Ok(())
 }
 
-// How many records an outcome has.
-fn record_count(outcome: Outcome) -> usize
-    ensures { result ≡ length (records outcome) }
-{
-    match outcome {
-        Outcome::Done(_) => 1,
-        Outcome::Gave(_, _, party) => party.len(),
-        _ => 0,
-    }
-}
-
-// Finds the memory for what is decided.
+// Finds the memory for a record.
 fn make_ready(
     station: &mut Station,
     journal: &mut Vec<Record>,
-    outcome: Outcome,
+    entry: Record,
 ) -> Result<(), Refusal>
     ensures state { view station.new ≡ view station.old }
     ensures same { journal.new.items ≡ journal.old.items }
-    ensures cases { MatchResult result (λ _. ReadyFor station.new outcome × (vec_len journal.new + length (records outcome) ≤ vec_capacity journal.new)) (λ e. (e ≡ Memory) × Unwritten station.old journal.old outcome) }
+    ensures cases { MatchResult result (λ _. Ready station.new entry × (vec_len journal.new < vec_capacity journal.new)) (λ e. (e ≡ Memory) × Unwritten station.old journal.old (Done entry)) }
 {
-    if let Outcome::Done(entry) = outcome {
-        station.reserve(entry)?;
-    }
-    if journal.reserve(record_count(outcome)).is_err() {
+    station.reserve(entry)?;
+    if journal.reserve(1).is_err() {
         return Err(Refusal::Memory);
     }
     Ok(())
@@ -72,48 +56,39 @@ fn write(station: &mut Station, table: &Timetable, journal: &mut Vec<Record>, en
     requires room { vec_len journal.old < vec_capacity journal.old }
     ensures state { view station.new ≡ apply (rows_of table.now) (view station.old) entry }
     ensures written { journal.new.items ≡ journal.old.items ++ entry ∷ [] }
-    ensures room { (vec_len journal.new ≡ vec_len journal.old + 1) × (vec_capacity journal.new ≡ vec_capacity journal.old) }
 {
     journal.push_reserved(entry);
     station.apply(table, entry);
 }
 
-// Writes the pieces of a party as given, one after the other, and makes the change of each.
-fn write_gifts(
-    station: &mut Station,
-    table: &Timetable,
-    journal: &mut Vec<Record>,
-    to: StationId,
-    first: Number,
-    party: &Party,
-)
-    requires fits { all_fit (rows_of table.now) (view station.old) (gifts to first.0 (pieces_of party.now)) ≡ true }
-    requires room { vec_len journal.old + length (seats_of party.now) ≤ vec_capacity journal.old }
-    requires numbered { first.0 + length (seats_of party.now) ≤ 4294967296 }
-    ensures state { view station.new ≡ fold (apply (rows_of table.now)) (view station.old) (gifts to first.0 (pieces_of party.now)) }
-    ensures written { journal.new.items ≡ journal.old.items ++ gifts to first.0 (pieces_of party.now) }
+// Says what is to be said of a call, for which there is room.
+fn say(station: &Station, out: &mut Vec<Message>, input: Input, outcome: Outcome)
+    requires { said input outcome ≡ true → vec_len out.old < vec_capacity out.old }
+    ensures { out.new.items ≡ out.old.items ++ messages (view station.now) input outcome }
 {
-    for (k, seat) in party.seats().iter().enumerate() {
-        let piece = Piece::new(party.train, *seat, party.trip);
-        let number = Number(first.0 + k as u32);
-        write(station, table, journal, Record::Given(to, number, piece));
+    if let Some(message) = reply(station, input, outcome) {
+        out.push_reserved(message);
     }
 }
 
-// Writes and does what is decided, for which there is memory.
-fn settle(station: &mut Station, table: &Timetable, journal: &mut Vec<Record>, outcome: Outcome)
-    requires fits { all_fit (rows_of table.now) (view station.old) (records outcome) ≡ true }
-    requires ready { ReadyFor station.old outcome }
-    requires room { vec_len journal.old + length (records outcome) ≤ vec_capacity journal.old }
-    requires numbered { Numbered outcome }
-    ensures state { view station.new ≡ after (rows_of table.now) (view station.old) outcome }
-    ensures written { journal.new.items ≡ journal.old.items ++ records outcome }
+// Writes and does what is decided, if there is anything to do.
+fn settle(
+    station: &mut Station,
+    table: &Timetable,
+    journal: &mut Vec<Record>,
+    outcome: Outcome,
+) -> Result<(), Refusal>
+    requires { (e : Entry) → outcome ≡ Done e → fits (rows_of table.now) (view station.old) e ≡ true }
+    ensures state { MatchResult result (λ _. view station.new ≡ after (rows_of table.now) (view station.old) outcome) (λ _. view station.new ≡ view station.old) }
+    ensures written { MatchResult result (λ _. journal.new.items ≡ journal.old.items ++ records outcome) (λ _. journal.new.items ≡ journal.old.items) }
+    ensures memory { MatchResult result (λ _. Unit) (λ e. (e ≡ Memory) × Unwritten station.old journal.old outcome) }
 {
-    match outcome {
-        Outcome::Done(entry) => write(station, table, journal, entry),
-        Outcome::Gave(to, first, party) => write_gifts(station, table, journal, to, first, &party),
-        _ => {}
-    }
+    let Outcome::Done(entry) = outcome else {
+        return Ok(());
+    };
+    make_ready(station, journal, entry)?;
+    write(station, table, journal, entry);
+    Ok(())
 }
 
 // A call: decides, writes what is decided to the journal, does it, and says what is to be said of it.
@@ -131,13 +106,12 @@ pub fn call(
     ensures memory { for_memory result ≡ true → Short station.old journal.old out.old input (decided (rows_of table.now) (view station.old) input) }
 {
     let outcome = decide(station, table, input);
-    if let Err(refusal) = make_room(out, said_count(input, outcome)) {
+    if let Err(refusal) = make_room(out, input, outcome) {
         return Outcome::Refused(refusal);
     }
-    if let Err(refusal) = make_ready(station, journal, outcome) {
+    if let Err(refusal) = settle(station, table, journal, outcome) {
         return Outcome::Refused(refusal);
     }
-    settle(station, table, journal, outcome);
     say(station, out, input, outcome);
     outcome
 }
@@ -159,7 +133,7 @@ pub fn open(
     let Outcome::Done(entry) = outcome else {
         return outcome;
     };
-    if let Err(refusal) = make_ready(station, journal, outcome) {
+    if let Err(refusal) = make_ready(station, journal, entry) {
         return Outcome::Refused(refusal);
     }
     if let Err(refusal) = table.add(row) {
@@ -167,13 +141,6 @@ pub fn open(
     }
     write(station, table, journal, entry);
     outcome
-}
-
-// A ticket that was sold can be undone, and then the state is as before, but for the ticket's number.
-pub fn undoing_stands() -> u8
-    ensures { SellsBack }
-{
-    0
 }
 
 // What is decided fits the state that it is decided by.

@@ -1,27 +1,17 @@
 // What a station is asked, and what a call came to.
-use choosing::party::Party;
 use giving::ids::{Number, StationId, Ticket};
 use giving::refusal::Refusal;
-use pieces::names::{Stop, Train};
+use pieces::names::Train;
 use pieces::piece::Piece;
 use state::record::Record;
-
-// A trip that so many people want, in bare numbers: it may be none.
-#[derive(Clone, Copy, Drop)]
-pub struct Demand {
-    pub train: Train,
-    pub from: Stop,
-    pub to: Stop,
-    pub people: u8,
-}
 
 // What a station is asked at its counter, or told by another.
 #[derive(Clone, Copy, Drop)]
 pub enum Input {
     Close(Train),
-    Sell(Demand),
+    Sell(Piece),
     Undo(Ticket),
-    Give(StationId, Demand),
+    Give(StationId, Piece),
     Take(StationId, Number, Piece),
     Hear(StationId, Number),
 }
@@ -30,9 +20,7 @@ pub enum Input {
 #[derive(Clone, Copy, Drop)]
 pub enum Outcome {
     Done(Record),
-    // the pieces of a party were given to a station, under the numbers from this one on; there may be none
-    Gave(StationId, Number, Party),
-    // there was nothing to do: it was heard before
+    // there was nothing to do: heard before, or nothing held that could be given
     Nothing,
     // passed over, by the number of the refusal
     Passed(Refusal),

@@ -1,17 +1,44 @@
 // What a station says of a call, once it is done.
-ghost use Rattle.std.specs.Prelude.{◌≡◌, ◌+◌, ◌≤◌, ◌++◌, length, vec_len, vec_capacity};
-ghost use Rattle.choosing.specs.Parties.{pieces_of, seats_of};
-ghost use Rattle.ledger.specs.Calls.{Numbered, said};
-ghost use Rattle.ledger.specs.Decisions.{answered, messages, notices, receipt};
+ghost use Rattle.std.specs.Prelude.{◌≡◌};
+ghost use Rattle.giving.specs.Channels.{line};
+ghost use Rattle.ledger.specs.Calls.{said};
+ghost use Rattle.ledger.specs.Decisions.{answered, is_done, messages, notice, receipt};
 ghost use Rattle.state.specs.Views.{view};
+ghost use Rattle.std.specs.Option.{option_to_list};
 
 use crate::input::{Input, Outcome};
-use choosing::party::Party;
 use giving::ids::{Number, StationId};
 use giving::message::{Body, Message};
 use giving::refusal::Refusal;
 use pieces::piece::Piece;
 use state::station::Station;
+
+// The last number that was used for a piece to a station: that of the last piece that waits, or the last one heard of.
+fn given_to(station: &Station, to: StationId) -> Number
+    ensures { result ≡ record { 0 = (line (view station.now).channels to.0).given } }
+{
+    let Some(channel) = station.channels().channel(to) else {
+        return Number(0);
+    };
+    let count = channel.waiting_len();
+    if count == 0 {
+        return channel.heard_to();
+    }
+    match channel.waiting_at(count - 1) {
+        None => channel.heard_to(),
+        Some(last) => last.0,
+    }
+}
+
+fn notice_of(station: &Station, to: StationId, piece: Piece) -> Message
+    ensures { result ≡ notice (view station.now) to piece }
+{
+    Message {
+        from: station.me(),
+        to,
+        body: Body::Given(given_to(station, to), piece),
+    }
+}
 
 fn receipt_of(station: &Station, from: StationId) -> Message
     ensures { result ≡ receipt (view station.now) from }
@@ -20,6 +47,16 @@ fn receipt_of(station: &Station, from: StationId) -> Message
         from: station.me(),
         to: from,
         body: Body::Taken(station.channels().taken_from(from)),
+    }
+}
+
+// Whether anything was done.
+fn is_done(outcome: Outcome) -> bool
+    ensures { result ≡ is_done outcome }
+{
+    match outcome {
+        Outcome::Done(_) => true,
+        _ => false,
     }
 }
 
@@ -34,53 +71,27 @@ fn is_answered(outcome: Outcome) -> bool
     }
 }
 
-// How many messages a call has that came to this.
-pub fn said_count(input: Input, outcome: Outcome) -> usize
+// Whether a call that came to this has a message.
+pub fn is_said(input: Input, outcome: Outcome) -> bool
     ensures { result ≡ said input outcome }
 {
     match input {
-        Input::Give(_, _) => match outcome {
-            Outcome::Gave(_, _, party) => party.len(),
-            _ => 0,
-        },
-        Input::Take(_, _, _) => is_answered(outcome) as usize,
-        _ => 0,
+        Input::Give(_, _) => is_done(outcome),
+        Input::Take(_, _, _) => is_answered(outcome),
+        _ => false,
     }
 }
 
-// Says each piece that was given, under its number.
-fn say_gifts(me: StationId, out: &mut Vec<Message>, to: StationId, first: Number, party: &Party)
-    requires room { vec_len out.old + length (seats_of party.now) ≤ vec_capacity out.old }
-    requires numbered { first.0 + length (seats_of party.now) ≤ 4294967296 }
-    ensures { out.new.items ≡ out.old.items ++ notices me.0 to first.0 (pieces_of party.now) }
+// What the station says after a call: of a piece that it gave, or up to where it has taken another station's pieces.
+pub fn reply(station: &Station, input: Input, outcome: Outcome) -> Option<Message>
+    ensures { option_to_list result ≡ messages (view station.now) input outcome }
 {
-    for (k, seat) in party.seats().iter().enumerate() {
-        let piece = Piece::new(party.train, *seat, party.trip);
-        out.push_reserved(Message {
-            from: me,
-            to,
-            body: Body::Given(Number(first.0 + k as u32), piece),
-        });
+    if !is_said(input, outcome) {
+        return None;
     }
-}
-
-// What the station says after a call: of pieces that it gave, or up to where it has taken another station's pieces.
-pub fn say(station: &Station, out: &mut Vec<Message>, input: Input, outcome: Outcome)
-    requires room { vec_len out.old + said input outcome ≤ vec_capacity out.old }
-    requires numbered { Numbered outcome }
-    ensures { out.new.items ≡ out.old.items ++ messages (view station.now) input outcome }
-{
     match input {
-        Input::Give(_, _) => {
-            if let Outcome::Gave(to, first, party) = outcome {
-                say_gifts(station.me(), out, to, first, &party);
-            }
-        }
-        Input::Take(from, _, _) => {
-            if is_answered(outcome) {
-                out.push_reserved(receipt_of(station, from));
-            }
-        }
-        _ => {}
+        Input::Give(to, piece) => Some(notice_of(station, to, piece)),
+        Input::Take(from, _, _) => Some(receipt_of(station, from)),
+        _ => None,
     }
 }

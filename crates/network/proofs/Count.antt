@@ -1,20 +1,16 @@
 -- How often a stretch of a seat stands in lists of pieces, and what journals give and take.
 -- Assumes nothing.
 use Rattle.std.proofs.Common.{◌≡◌, ℕ, zero, suc, ◌+◌, ◌<◌, Bool, true, false, cond, eqb, ◌⊎◌, List, [], ◌∷◌, ◌++◌, map, get_or, set, sym, refl, ap, ◌∙◌, inl, inr, append_assoc, append-nil, arith}
-use Rattle.choosing.specs.Parties.{pieces_of, seats_of}
-use Rattle.choosing.specs.declared.party.Party.{Party}
 use Rattle.state.specs.Changes.{forgotten, trimmed}
 use Rattle.state.specs.declared.record.Record.{Record}
 use Rattle.state.specs.declared.record.Record.TheVariants.{Opened, Closed, Sold, Undone, Given, Taken, Heard}
 use Rattle.state.specs.declared.record.Sale.{Sale}
 use Rattle.state.specs.declared.record.Sale.TheVariants.{Stands, Returned}
 use Rattle.network.proofs.Sum.{sum_to, sum_one}
-use Rattle.network.specs.Places.{count_in, sold_by, standing}
-use Rattle.pieces.specs.Parts.{has, piece_of}
-use Rattle.pieces.specs.declared.names.Seat.{Seat}
+use Rattle.network.specs.Places.{count_in, piece_of, standing}
+use Rattle.pieces.specs.Parts.{has}
 use Rattle.pieces.specs.declared.names.Train.{Train}
 use Rattle.pieces.specs.declared.piece.Piece.{Piece}
-use Rattle.pieces.specs.declared.trip.Trip.{Trip}
 use Rattle.std.proofs.lemmas.Bool.{cases_eq, eq-eqb, ne_eqb}
 
 -- ---- the pieces that a journal gives to j, and takes from j, in order
@@ -55,10 +51,10 @@ unfolding taken_from
 taken_push k [] e = append-nil (taken_of k e)
 taken_push k (x ∷ es) e = ap (λ l. taken_of k x ++ l) (taken_push k es e) ∙ sym (append_assoc (taken_of k x) (taken_from k es) (taken_of k e))
 
-pub standing_push : (xs : List Sale) (p : Party) → standing (xs ++ Stands p ∷ []) ≡ standing xs ++ pieces_of p
+pub standing_push : (xs : List Sale) (p : Piece) → standing (xs ++ Stands p ∷ []) ≡ standing xs ++ p ∷ []
 unfolding standing
-standing_push [] p = append-nil (pieces_of p)
-standing_push (x ∷ xs) p = ap (λ l. sold_by x ++ l) (standing_push xs p) ∙ sym (append_assoc (sold_by x) (standing xs) (pieces_of p))
+standing_push [] p = refl
+standing_push (x ∷ xs) p = ap (λ l. piece_of x ++ l) (standing_push xs p) ∙ sym (append_assoc (piece_of x) (standing xs) (p ∷ []))
 
 -- tickets that do not stand have no pieces
 pub standing_trimmed : (xs : List Sale) → standing (trimmed xs) ≡ standing xs
@@ -95,11 +91,11 @@ module _ (t : Train) (s u : ℕ) where
   count_push xs p = omega (arith, count_append xs (p ∷ []), count_single p)
 
   -- a ticket that stands is returned
-  pub count_returned : (xs : List Sale) (a : ℕ) (p : Party) → get_or xs a Returned ≡ Stands p → count_in t s u (standing xs) ≡ count_in t s u (pieces_of p) + count_in t s u (standing (set xs a Returned))
+  pub count_returned : (xs : List Sale) (a : ℕ) (p : Piece) → get_or xs a Returned ≡ Stands p → count_in t s u (standing xs) ≡ one p + count_in t s u (standing (set xs a Returned))
   unfolding standing
   count_returned [] a p e = let z : ◌≡◌ {A = ℕ} 0 1 = cc in absurd (omega arith)
-  count_returned (x ∷ xs) zero p e = rw e (count_append (pieces_of p) (standing xs))
-  count_returned (x ∷ xs) (suc a) p e = omega (arith, count_returned xs a p e, count_append (sold_by x) (standing xs), count_append (sold_by x) (standing (set xs a Returned)))
+  count_returned (x ∷ xs) zero p e = rw e (omega (arith, count_cons p (standing xs)))
+  count_returned (x ∷ xs) (suc a) p e = omega (arith, count_returned xs a p e, count_append (piece_of x) (standing xs), count_append (piece_of x) (standing (set xs a Returned)))
 
   -- what one record gives to one station, over all stations
   pub count_to : (n k : ℕ) (p : Piece) → k < n → sum_to n (λ j. count_in t s u (cond (eqb j k) (p ∷ []) [])) ≡ one p
@@ -110,14 +106,6 @@ module _ (t : Train) (s u : ℕ) where
   pub one_other : (p : Piece) → (t.0 ≡ p.train.0 → ⊥) → one p ≡ 0
   one_other p d = rw (ne_eqb t.0 p.train.0 d) refl
 
-  -- a party on another train
-  seats_other : (z : Train) (r : Trip) (ss : List Seat) → (t.0 ≡ z.0 → ⊥) → count_in t s u (map (λ x. piece_of z x r) ss) ≡ 0
-  seats_other z r [] d = count_nil
-  seats_other z r (x ∷ ss) d = omega (arith, count_cons (piece_of z x r) (map (λ y. piece_of z y r) ss), one_other (piece_of z x r) d, seats_other z r ss d)
-
-  pub party_other : (p : Party) → (t.0 ≡ p.train.0 → ⊥) → count_in t s u (pieces_of p) ≡ 0
-  party_other p d = seats_other p.train p.trip (seats_of p) d
-
   -- the tickets of a train are forgotten, those of another are not
   pub count_forgotten : (z : Train) (xs : List Sale) → (t.0 ≡ z.0 → ⊥) → count_in t s u (standing (map (forgotten z) xs)) ≡ count_in t s u (standing xs)
   unfolding standing
@@ -125,9 +113,9 @@ module _ (t : Train) (s u : ℕ) where
   count_forgotten z (Returned ∷ xs) d = count_forgotten z xs d
   count_forgotten z (Stands p ∷ xs) d = go (cases_eq z.0 p.train.0) (count_forgotten z xs d)
     where
-      go : (z.0 ≡ p.train.0) ⊎ (z.0 ≡ p.train.0 → ⊥) → count_in t s u (standing (map (forgotten z) xs)) ≡ count_in t s u (standing xs) → count_in t s u (sold_by (forgotten z (Stands p)) ++ standing (map (forgotten z) xs)) ≡ count_in t s u (pieces_of p ++ standing xs)
-      go (inl e) ih = rw (eq-eqb z.0 p.train.0 e) (omega (arith, ih, count_append (pieces_of p) (standing xs), party_other p (λ f. d (f ∙ sym e))))
-      go (inr n) ih = rw (ne_eqb z.0 p.train.0 n) (omega (arith, ih, count_append (pieces_of p) (standing xs), count_append (pieces_of p) (standing (map (forgotten z) xs))))
+      go : (z.0 ≡ p.train.0) ⊎ (z.0 ≡ p.train.0 → ⊥) → count_in t s u (standing (map (forgotten z) xs)) ≡ count_in t s u (standing xs) → count_in t s u (piece_of (forgotten z (Stands p)) ++ standing (map (forgotten z) xs)) ≡ count_in t s u (p ∷ standing xs)
+      go (inl e) ih = rw (eq-eqb z.0 p.train.0 e) (omega (arith, ih, count_cons p (standing xs), one_other p (λ f. d (f ∙ sym e))))
+      go (inr n) ih = rw (ne_eqb z.0 p.train.0 n) (omega (arith, ih, count_cons p (standing xs), count_cons p (standing (map (forgotten z) xs))))
 
   pub count_forgotten_all : (z : Train) (xs : List Sale) → t.0 ≡ z.0 → count_in t s u (standing (map (forgotten z) xs)) ≡ 0
   unfolding standing
@@ -135,6 +123,6 @@ module _ (t : Train) (s u : ℕ) where
   count_forgotten_all z (Returned ∷ xs) d = count_forgotten_all z xs d
   count_forgotten_all z (Stands p ∷ xs) d = go (cases_eq z.0 p.train.0) (count_forgotten_all z xs d)
     where
-      go : (z.0 ≡ p.train.0) ⊎ (z.0 ≡ p.train.0 → ⊥) → count_in t s u (standing (map (forgotten z) xs)) ≡ 0 → count_in t s u (sold_by (forgotten z (Stands p)) ++ standing (map (forgotten z) xs)) ≡ 0
+      go : (z.0 ≡ p.train.0) ⊎ (z.0 ≡ p.train.0 → ⊥) → count_in t s u (standing (map (forgotten z) xs)) ≡ 0 → count_in t s u (piece_of (forgotten z (Stands p)) ++ standing (map (forgotten z) xs)) ≡ 0
       go (inl e) ih = rw (eq-eqb z.0 p.train.0 e) ih
-      go (inr n) ih = rw (ne_eqb z.0 p.train.0 n) (omega (arith, ih, count_append (pieces_of p) (standing (map (forgotten z) xs)), party_other p (λ f. n (sym d ∙ f))))
+      go (inr n) ih = rw (ne_eqb z.0 p.train.0 n) (omega (arith, ih, count_cons p (standing (map (forgotten z) xs)), one_other p (λ f. n (sym d ∙ f))))

@@ -2,9 +2,8 @@
 -- Assumes nothing.
 use Rattle.std.proofs.Common.{◌≡◌, ℕ, zero, suc, ◌+◌, ◌<◌, ◌≤◌, Bool, true, false, cond, ◌||◌, eqb, List, [], ◌∷◌, ◌++◌, map, length, get_or, replicate, Some, None, Option, sym, refl, ap, ◌∙◌, ⊎_elim, arith}
 use lib.ListN.{length-replicate}
-use Rattle.choosing.specs.declared.party.Party.{Party}
 use Rattle.giving.specs.Channels.{fresh}
-use Rattle.state.specs.Changes.{apply, fits, listed_all, opened, returned, forgotten}
+use Rattle.state.specs.Changes.{apply, fits, opened, returned, forgotten}
 use Rattle.state.specs.States.{State, begun, same, place_of, is_open, among, was_closed, ticket_of}
 use Rattle.state.specs.declared.record.Record.{Record}
 use Rattle.state.specs.declared.record.Record.TheVariants.{Opened, Closed, Sold, Undone, Given, Taken, Heard}
@@ -79,7 +78,7 @@ closed_before tb x e t h = ⊎_elim (λ f. absurd (true≢false (sym (closed_nex
 -- ---- tickets are of pieces that the train has
 
 abbrev pub Real : Table → Sale → Type 0
-Real tb (Stands p) = listed_all (tb p.train.0) p ≡ true
+Real tb (Stands p) = listed (tb p.train.0) p ≡ true
 Real tb Returned = Unit {0}
 
 real_forgotten : (tb : Table) (z : Train) (y : Sale) → Real tb y → Real tb (forgotten z y)
@@ -97,13 +96,13 @@ real_next tb x (Opened t) f h = go (tb t.0)
     go None = h
     go (Some r) = h
 real_next tb x (Closed t) f h = All-drop (Real tb) _ (map (forgotten t) x.tickets) (All-map (Real tb) (forgotten t) x.tickets (All-weaker (Real tb) (λ y. Real tb (forgotten t y)) (real_forgotten tb t) x.tickets h))
-real_next tb x (Sold n p) f h = All-push (Real tb) x.tickets (Stands p) h (fits_sold tb x n p f).listed
+real_next tb x (Sold n p) f h = All-push (Real tb) x.tickets (Stands p) h (fits_sold tb x n p f).0
 real_next tb x (Undone n) f h = All-set (Real tb) x.tickets _ Returned tt h
 real_next tb x (Given to n p) f h = h
 real_next tb x (Taken from n p) f h = rw (received_tickets tb x p) h
 real_next tb x (Heard from n) f h = h
 
-pub real_at : (tb : Table) (xs : List Sale) (a : ℕ) (p : Party) → AllByRecursion (Real tb) xs → get_or xs a Returned ≡ Stands p → listed_all (tb p.train.0) p ≡ true
+pub real_at : (tb : Table) (xs : List Sale) (a : ℕ) (p : Piece) → AllByRecursion (Real tb) xs → get_or xs a Returned ≡ Stands p → listed (tb p.train.0) p ≡ true
 real_at tb [] a p h e = let z : ◌≡◌ {A = ℕ} 0 1 = cc in absurd (omega arith)
 real_at tb (y ∷ xs) zero p h e = rw e at h.0
 real_at tb (y ∷ xs) (suc a) p h e = real_at tb xs a p h.1 e

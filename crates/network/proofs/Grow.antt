@@ -1,17 +1,15 @@
 -- A timetable with more trains.
 -- Assumes nothing.
-use Rattle.std.proofs.Common.{◌≡◌, ℕ, ◌+◌, ◌<◌, Bool, true, cond, ◌&&◌, eqb, List, [], length, get_or, is_some, Some, None, fold, Option, sym, refl, ap, ◌∙◌, subst, arith}
-use Rattle.choosing.specs.Parties.{seats_of, some as Some-of}
-use Rattle.choosing.specs.declared.party.Party.{Party}
+use Rattle.std.proofs.Common.{◌≡◌, ℕ, ◌<◌, Bool, true, cond, ◌&&◌, List, [], length, get_or, is_some, Some, None, fold, Option, sym, refl, ap, ◌∙◌, subst, arith}
 use Rattle.giving.specs.Channels.{took, line}
 use Rattle.network.proofs.Linked.{Ok, ok_reach}
 use Rattle.network.proofs.Lists.{set_ind, slice_index_same}
-use Rattle.network.proofs.Local.{listed_row, listed_party, fits_opened, fits_taken}
+use Rattle.network.proofs.Local.{listed_row, fits_opened, fits_taken}
 use Rattle.network.specs.Promises.{Extends, Grows}
 use Rattle.network.specs.Worlds.{World, journal, state, channel, spoke, reminder, account, Step, writes, reminds, accounts, none, more, Reach, beginning}
 use Rattle.pieces.specs.declared.piece.Piece.{Piece}
-use Rattle.state.specs.Changes.{apply, fits, holds_all, listed_all, opened, returnable, put_back, with_line}
-use Rattle.state.specs.States.{State, begun, is_open, was_closed, sold, ticket_of, tickets_left}
+use Rattle.state.specs.Changes.{apply, fits, opened, returnable, put_back, with_line}
+use Rattle.state.specs.States.{State, begun, is_open, was_closed, ticket_of}
 use Rattle.state.specs.declared.record.Record.{Record}
 use Rattle.state.specs.declared.record.Record.TheVariants.{Opened, Closed, Sold, Undone, Given, Taken, Heard}
 use Rattle.state.specs.declared.record.Sale.{Sale}
@@ -32,9 +30,6 @@ module _ (tb ub : Table) (ext : Extends tb ub) where
   there : (p : Piece) → listed (tb p.train.0) p ≡ true → tb p.train.0 ≡ ub p.train.0
   there p h = let l = listed_row (tb p.train.0) p h in l.is ∙ sym (ext p.train.0 l.row l.is)
 
-  there_all : (p : Party) → listed_all (tb p.train.0) p ≡ true → tb p.train.0 ≡ ub p.train.0
-  there_all p h = let l = listed_party (tb p.train.0) p h in l.is ∙ sym (ext p.train.0 l.row l.is)
-
   -- a ground that is kept, and the others as they were
   first : (a b c : Bool) → (a && c) ≡ true → (a ≡ true → b ≡ true) → (b && c) ≡ true
   first a b c h f = let (x, y) = and_parts a c h in and_from b c (f x) y
@@ -42,14 +37,12 @@ module _ (tb ub : Table) (ext : Extends tb ub) where
   fits_more : (x : State) (e : Record) → fits tb x e ≡ true → fits ub x e ≡ true
   fits_more x (Opened t) f = first (is_some (tb t.0)) (is_some (ub t.0)) _ f (λ h. ap is_some (sym (some t.0 h)) ∙ h)
   fits_more x (Closed t) f = f
-  fits_more x (Sold n p) f =
-      let (a, b) = and_parts (Some-of (length (seats_of p))) (listed_all (tb p.train.0) p && (is_open x p.train && (holds_all x p && (tickets_left x && eqb n.0 (sold x + 1))))) f in
-      and_from _ _ a (first (listed_all (tb p.train.0) p) (listed_all (ub p.train.0) p) _ b (λ h. ap (λ o. listed_all o p) (sym (there_all p h)) ∙ h))
+  fits_more x (Sold n p) f = first (listed (tb p.train.0) p) (listed (ub p.train.0) p) _ f (λ h. ap (λ o. listed o p) (sym (there p h)) ∙ h)
   fits_more x (Undone n) f = go (ticket_of x n.0) f
     where
       go : (y : Sale) → returnable tb x y ≡ true → returnable ub x y ≡ true
       go Returned h = absurd (false≢true h)
-      go (Stands p) h = first (listed_all (tb p.train.0) p) (listed_all (ub p.train.0) p) _ h (λ h. ap (λ o. listed_all o p) (sym (there_all p h)) ∙ h)
+      go (Stands p) h = first (listed (tb p.train.0) p) (listed (ub p.train.0) p) _ h (λ h. ap (λ o. listed o p) (sym (there p h)) ∙ h)
   fits_more x (Given to n p) f = first (listed (tb p.train.0) p) (listed (ub p.train.0) p) _ f (λ h. ap (λ o. listed o p) (sym (there p h)) ∙ h)
   fits_more x (Taken from n p) f = first (listed (tb p.train.0) p) (listed (ub p.train.0) p) _ f (λ h. ap (λ o. listed o p) (sym (there p h)) ∙ h)
   fits_more x (Heard from n) f = f

@@ -1,22 +1,18 @@
 -- What a station holds of a stretch, when its words and its slots are written.
 -- Assumes nothing.
-use Rattle.std.proofs.Common.{◌≡◌, ℕ, ◌+◌, ◌<◌, ◌≤◌, Bool, true, false, cond, not, ◌&&◌, ◌||◌, ltb, leb, ◌⊎◌, List, [], ◌∷◌, map, length, get_or, set, sym, refl, ap, ◌∙◌, ap₂, inl, inr, ⊎_elim, arith, length-set}
+use Rattle.std.proofs.Common.{◌≡◌, ℕ, ◌+◌, ◌<◌, ◌≤◌, Bool, true, false, cond, not, ◌&&◌, ◌||◌, ltb, leb, ◌⊎◌, List, length, get_or, set, sym, refl, ap, ◌∙◌, ap₂, inl, inr, ⊎_elim, arith}
 use Rattle.state.specs.Changes.{with_words, taken_out, put_back}
 use Rattle.state.specs.States.{State, same, place, is_open, holds_piece}
 use Rattle.state.specs.declared.record.Slot.TheVariants.{Free, Open}
-use Rattle.network.proofs.Count.{one, count_nil, count_cons}
+use Rattle.network.proofs.Count.{one}
 use Rattle.network.proofs.Slots.{place_le, place_reads, differ, Unique}
-use Rattle.network.specs.Places.{count_in, holding}
+use Rattle.network.specs.Places.{holding}
 use Rattle.pieces.proofs.Bitwise.{holds_less, holds_plus, holds_past, covered_decides}
 use Rattle.pieces.proofs.Places.{word_set, word_set_other, seated_in, seated_out}
-use Rattle.pieces.specs.Memory.{at, word_at, without, together, without_all, together_all, covered_all, seated}
-use Rattle.pieces.specs.Parts.{piece_of}
-use Rattle.pieces.specs.declared.names.Seat.{Seat}
+use Rattle.pieces.specs.Memory.{at, word_at, seated}
 use Rattle.pieces.specs.Stretches.{holds, within, covered, less, plus}
 use Rattle.pieces.specs.declared.names.Train.{Train}
 use Rattle.pieces.specs.declared.piece.Piece.{Piece}
-use Rattle.pieces.specs.declared.trip.Trip.{Trip}
-use Rattle.std.specs.List.{AllByRecursion}
 use Rattle.std.proofs.lemmas.List.{get_or_past}
 use Rattle.std.proofs.lemmas.Bool.{cases_eq, cases_lt, eq-eqb, ne_eqb, leb-true, ltb-true, lt-ltb, le-ltb, and_parts, true≢false, false≢true}
 
@@ -71,17 +67,6 @@ pub record Sound (x : State) : Type 0 where
   pub slots : length x.slots ≡ 64
   pub words : length x.words ≡ 25600
   pub unique : Unique x.slots
-
-pub set_sound : (x : State) → Sound x → (i v : ℕ) → Sound (with_words x (set x.words i v))
-set_sound x h i v = record { slots = h.slots; words = length-set x.words i v ∙ h.words; unique = h.unique }
-
-pub out_sound : (x : State) → Sound x → (k : ℕ) (ss : List Seat) (a b : ℕ) → Sound (with_words x (without_all x.words k ss a b))
-out_sound x h k [] a b = record { slots = h.slots; words = h.words; unique = h.unique }
-out_sound x h k (s ∷ ss) a b = out_sound (with_words x (without x.words k s.0 a b)) (set_sound x h _ _) k ss a b
-
-pub back_sound : (x : State) → Sound x → (k : ℕ) (ss : List Seat) (a b : ℕ) → Sound (with_words x (together_all x.words k ss a b))
-back_sound x h k [] a b = record { slots = h.slots; words = h.words; unique = h.unique }
-back_sound x h k (s ∷ ss) a b = back_sound (with_words x (together x.words k s.0 a b)) (set_sound x h _ _) k ss a b
 
 pub open_lt : (x : State) (t : Train) → is_open x t ≡ true → place x t < length x.slots
 open_lt x t o = ltb-true (place x t) (length x.slots) o
@@ -151,25 +136,6 @@ module _ (t : Train) (s u : ℕ) (l : s < 400) where
           let g = rw (same_word x p e f, one_here p e f) at h in
           rw (same_word x p e f, wrote_here x sound p o b t s u (plus w p.from.0 p.to.0) e f, one_here p e f) (bit_plus w p.from.0 p.to.0 u (omega (arith, p.ordered)) g)
       go (inr d) = rw (wrote_there x sound p o b t s u (plus w p.from.0 p.to.0) l d, one_there p d) (omega arith)
-
-  -- the same of several seats of a train, one after the other
-  pub in_out_all : (x : State) (z : Train) (r : Trip) (ss : List Seat) → Sound x → is_open x z ≡ true → covered_all x.words (place x z) ss r.from.0 r.to.0 ≡ true →
-      in_word x ≡ in_word (with_words x (without_all x.words (place x z) ss r.from.0 r.to.0)) + count_in t s u (map (λ y. piece_of z y r) ss)
-  in_out_all x z r [] sound o c = omega (arith, count_nil t s u)
-  in_out_all x z r (y ∷ ss) sound o c =
-      let p = piece_of z y r in
-      let (h, d) = and_parts (holds_piece x p) (covered_all (taken_out x p).words (place x z) ss r.from.0 r.to.0) c in
-      let b = ltb-true y.0 400 (and_parts (ltb y.0 400) (covered (word_at x.words (place x z) y.0) r.from.0 r.to.0) h).0 in
-      omega (arith, in_out x p sound o b h, in_out_all (taken_out x p) z r ss (set_sound x sound _ _) o d, count_cons t s u p (map (λ v. piece_of z v r) ss))
-
-  pub in_back_all : (x : State) (z : Train) (r : Trip) (ss : List Seat) → Sound x → is_open x z ≡ true → AllByRecursion (λ (v : Seat). v.0 < 400) ss → in_word x + count_in t s u (map (λ y. piece_of z y r) ss) ≤ 1 →
-      in_word (with_words x (together_all x.words (place x z) ss r.from.0 r.to.0)) ≡ in_word x + count_in t s u (map (λ y. piece_of z y r) ss)
-  in_back_all x z r [] sound o b h = omega (arith, count_nil t s u)
-  in_back_all x z r (y ∷ ss) sound o b h =
-      let p = piece_of z y r in
-      let n = count_cons t s u p (map (λ v. piece_of z v r) ss) in
-      let e = in_back x p sound o b.0 (omega (arith, n, h)) in
-      omega (arith, e, n, in_back_all (put_back x p) z r ss (set_sound x sound _ _) o b.1 (omega (arith, e, n, h)))
 
   -- a train that is not open has no words
   pub in_shut : (x : State) → Sound x → is_open x t ≡ false → in_word x ≡ 0

@@ -10,10 +10,7 @@ pub mod Stock
 pub mod Fine
 pub mod Linked
 pub mod Once
-pub mod Alone
-pub mod Numbers
 pub mod Kept
-pub mod Undoing
 pub mod Arrive
 pub mod Grow
 pub mod Bridge

@@ -1,17 +1,14 @@
 -- What holds of a station by itself, whatever its journal.
 -- Assumes nothing.
-use Rattle.std.proofs.Common.{◌≡◌, ℕ, ◌+◌, ◌-◌, ◌<◌, ◌≤◌, max, Bool, true, false, cond, not, ◌&&◌, ◌||◌, eqb, ltb, List, [], ◌∷◌, ◌++◌, length, get_or, drop, is_some, Some, None, Option, sym, refl, ap, ◌∙◌, arith, length-append, drop-drop}
+use Rattle.std.proofs.Common.{◌≡◌, ℕ, ◌+◌, ◌-◌, ◌<◌, ◌≤◌, max, Bool, true, false, not, ◌&&◌, ◌||◌, eqb, ltb, List, [], ◌∷◌, ◌++◌, length, drop, is_some, Some, None, Option, sym, refl, ap, ◌∙◌, arith, length-append, drop-drop}
 use lib.Seq.{drop-append-le}
-use Rattle.choosing.specs.Parties.{below, seats_of, some}
-use Rattle.choosing.specs.declared.party.Party.{Party}
 use Rattle.giving.specs.Channels.{Chan, gave, took, heard_to, line, other}
 use Rattle.giving.specs.declared.ids.Number.{Number}
 use Rattle.giving.specs.declared.ids.StationId.{StationId}
 use Rattle.giving.specs.declared.ids.Ticket.{Ticket}
-use Rattle.state.specs.Changes.{fits, holds_all, listed_all}
-use Rattle.state.specs.States.{State, place_of, is_open, known, openable, holds_piece, tickets_left, sold, ticket_of}
+use Rattle.state.specs.Changes.{fits}
+use Rattle.state.specs.States.{State, place_of, is_open, known, openable, holds_piece, tickets_left, sold}
 use Rattle.state.specs.declared.record.Record.TheVariants.{Opened, Sold, Given, Taken, Heard}
-use Rattle.state.specs.declared.record.Sale.TheVariants.{Stands, Returned}
 use Rattle.state.specs.declared.record.Slot.TheVariants.{Free}
 use Rattle.pieces.specs.declared.names.Train.{Train}
 use Rattle.pieces.specs.declared.piece.Piece.{Piece}
@@ -63,25 +60,6 @@ pub listed_row : (o : Option Row) (p : Piece) → listed o p ≡ true → Listed
 listed_row None p e = absurd (false≢true e)
 listed_row (Some r) p e = let q = and_parts (ltb p.seat.0 r.seats) (ltb p.to.0 r.stops) e in record { row = r; is = refl; seat = ltb-true _ _ q.0; to = ltb-true _ _ q.1 }
 
--- the row of a party's train
-pub record ListedAll (o : Option Row) (p : Party) : Type 0 where
-  pub row : Row
-  pub is : o ≡ Some row
-  pub to : p.trip.to.0 < row.stops
-  pub seats : below row.seats (seats_of p) ≡ true
-
-pub listed_party : (o : Option Row) (p : Party) → listed_all o p ≡ true → ListedAll o p
-listed_party None p e = absurd (false≢true e)
-listed_party (Some r) p e = let q = and_parts (ltb p.trip.to.0 r.stops) (below r.seats (seats_of p)) e in record { row = r; is = refl; to = ltb-true _ _ q.0; seats = q.1 }
-
--- where a ticket that stands is kept
-pub ticket_at : (x : State) (m : ℕ) (p : Party) → ticket_of x m ≡ Stands p → get_or x.tickets (m - 1 - x.dropped) Returned ≡ Stands p
-ticket_at x m p e = go (ltb x.dropped m) e
-  where
-    go : (b : Bool) → cond b (get_or x.tickets (m - 1 - x.dropped) Returned) Returned ≡ Stands p → get_or x.tickets (m - 1 - x.dropped) Returned ≡ Stands p
-    go true f = f
-    go false f = let z : ◌≡◌ {A = ℕ} 0 1 = cc in absurd (omega arith)
-
 pub not_true : (b : Bool) → not b ≡ true → b ≡ false
 not_true true e = absurd (false≢true e)
 not_true false e = refl
@@ -103,19 +81,11 @@ module _ (tb : Table) (x : State) where
       let (c, d) = and_parts (not (known x t)) (openable x) b in
       (a, not_true (known x t) c, free_lt x d)
 
-  pub record FitsSold (n : Ticket) (p : Party) : Type 0 where
-    pub listed : listed_all (tb p.train.0) p ≡ true
-    pub «open» : is_open x p.train ≡ true
-    pub held : holds_all x p ≡ true
-    pub next : n.0 ≡ sold x + 1
-
-  pub fits_sold : (n : Ticket) (p : Party) → fits tb x (Sold n p) ≡ true → FitsSold n p
+  pub fits_sold : (n : Ticket) (p : Piece) → fits tb x (Sold n p) ≡ true → (listed (tb p.train.0) p ≡ true) × (is_open x p.train ≡ true) × (holds_piece x p ≡ true)
   fits_sold n p f =
-      let (_, z) = and_parts (some (length (seats_of p))) (listed_all (tb p.train.0) p && (is_open x p.train && (holds_all x p && (tickets_left x && eqb n.0 (sold x + 1))))) f in
-      let (a, b) = and_parts (listed_all (tb p.train.0) p) (is_open x p.train && (holds_all x p && (tickets_left x && eqb n.0 (sold x + 1)))) z in
-      let (c, d) = and_parts (is_open x p.train) (holds_all x p && (tickets_left x && eqb n.0 (sold x + 1))) b in
-      let (g, h) = and_parts (holds_all x p) (tickets_left x && eqb n.0 (sold x + 1)) d in
-      record { listed = a; «open» = c; held = g; next = eqb-true _ _ (and_parts (tickets_left x) (eqb n.0 (sold x + 1)) h).1 }
+      let (a, b) = and_parts (listed (tb p.train.0) p) (is_open x p.train && (holds_piece x p && (tickets_left x && eqb n.0 (sold x + 1)))) f in
+      let (c, d) = and_parts (is_open x p.train) (holds_piece x p && (tickets_left x && eqb n.0 (sold x + 1))) b in
+      (a, c, (and_parts (holds_piece x p) (tickets_left x && eqb n.0 (sold x + 1)) d).0)
 
   pub record FitsGiven (to : StationId) (n : Number) (p : Piece) : Type 0 where
     pub listed : listed (tb p.train.0) p ≡ true

@@ -1,17 +1,16 @@
 -- What a record that fits makes of a station: its lines, and its stock of a stretch.
 -- Assumes nothing.
 use Rattle.std.proofs.Common.{◌≡◌, ℕ, ◌-◌, ◌<◌, ◌≤◌, max, Bool, true, false, cond, ◌||◌, eqb, List, ◌++◌, length, set, is_some, Some, None, Option, sym, refl, ap, ◌∙◌, subst, ⊎_elim, append-nil, arith, length-set, get_or-set_other, get_or-set_same}
-use Rattle.choosing.specs.Parties.{seats_of}
 use Rattle.giving.specs.Channels.{Chan, fresh, gave, took, heard_to, line}
 use Rattle.state.specs.Changes.{apply, fits, put_back, opened, received, returned}
-use Rattle.state.specs.States.{State, place_of, place, is_open, was_closed, known, openable, ticket_of}
+use Rattle.state.specs.States.{State, place_of, is_open, was_closed, known, openable, ticket_of}
 use Rattle.state.specs.declared.record.Record.{Record}
 use Rattle.state.specs.declared.record.Record.TheVariants.{Opened, Closed, Sold, Undone, Given, Taken, Heard}
 use Rattle.state.specs.declared.record.Sale.{Sale}
 use Rattle.state.specs.declared.record.Sale.TheVariants.{Stands, Returned}
 use Rattle.state.specs.declared.record.Slot.TheVariants.{Free}
 use Rattle.network.proofs.Count.{given_of, taken_of}
-use Rattle.network.proofs.Held.{Sound, out_sound, back_sound}
+use Rattle.network.proofs.Held.{Sound}
 use Rattle.network.proofs.Local.{Line, line_gave, line_took, line_heard, Listed, listed_row, or_false, free_lt, fits_opened, fits_given, fits_taken, fits_heard}
 use Rattle.network.proofs.Trains.{opened_sound, closing_sound}
 use Rattle.network.specs.Worlds.{channel}
@@ -62,9 +61,6 @@ received_closed tb x p = received_keeps (λ y. y.closed) tb x p (λ _. refl) (λ
 
 pub received_tickets : (tb : Table) (x : State) (p : Piece) → (received tb x p).tickets ≡ x.tickets
 received_tickets tb x p = received_keeps (λ y. y.tickets) tb x p (λ _. refl) (λ _. refl)
-
-pub received_dropped : (tb : Table) (x : State) (p : Piece) → (received tb x p).dropped ≡ x.dropped
-received_dropped tb x p = received_keeps (λ y. y.dropped) tb x p (λ _. refl) (λ _. refl)
 
 opened_lines : (o : Option Row) (t : Train) (x : State) → (opened o t x).channels ≡ x.channels
 opened_lines None t x = refl
@@ -143,11 +139,11 @@ sound_next tb x (Opened t) f h = go (tb t.0) (fits_opened tb x t f)
     go None g = h
     go (Some r) (_, k, l) = opened_sound x h t r (or_false (is_open x t) (was_closed x t) k).0 l
 sound_next tb x (Closed t) f h = closing_sound x h t f
-sound_next tb x (Sold n p) f h = record { slots = h.slots; words = (out_sound x h (place x p.train) (seats_of p) p.trip.from.0 p.trip.to.0).words; unique = h.unique }
+sound_next tb x (Sold n p) f h = record { slots = h.slots; words = length-set x.words _ _ ∙ h.words; unique = h.unique }
 sound_next tb x (Undone n) f h = go (ticket_of x n.0)
   where
     go : (y : Sale) → Sound (record { me = (returned y x).me; slots = (returned y x).slots; words = (returned y x).words; closed = (returned y x).closed; dropped = (returned y x).dropped; tickets = set x.tickets (n.0 - 1 - x.dropped) Returned; channels = (returned y x).channels })
-    go (Stands p) = record { slots = h.slots; words = (back_sound x h (place x p.train) (seats_of p) p.trip.from.0 p.trip.to.0).words; unique = h.unique }
+    go (Stands p) = record { slots = h.slots; words = length-set x.words _ _ ∙ h.words; unique = h.unique }
     go Returned = record { slots = h.slots; words = h.words; unique = h.unique }
 sound_next tb x (Given to n p) f h = record { slots = h.slots; words = length-set x.words _ _ ∙ h.words; unique = h.unique }
 sound_next tb x (Taken from n p) f h = go (received_by tb x p (fits_taken tb x from n p f).listed (fits_taken tb x from n p f).room)

@@ -1,20 +1,18 @@
 -- The stock of a stretch at a station, held or sold, when it writes a record.
 -- Assumes nothing.
-use Rattle.std.proofs.Common.{◌≡◌, ℕ, ◌+◌, ◌-◌, ◌<◌, ◌≤◌, Bool, true, false, cond, ◌||◌, eqb, ◌⊎◌, List, [], ◌∷◌, ◌++◌, map, length, set, is_some, Some, None, Option, sym, refl, ap, ◌∙◌, subst, inl, inr, arith}
-use Rattle.choosing.specs.Parties.{pieces_of, seats_of}
-use Rattle.choosing.specs.declared.party.Party.{Party}
+use Rattle.std.proofs.Common.{◌≡◌, ℕ, ◌+◌, ◌-◌, ◌<◌, ◌≤◌, Bool, true, false, cond, ◌||◌, eqb, ltb, ◌⊎◌, List, [], ◌∷◌, ◌++◌, map, length, get_or, set, is_some, Some, None, Option, sym, refl, ap, ◌∙◌, subst, inl, inr, arith}
 use Rattle.giving.specs.declared.ids.Ticket.{Ticket}
-use Rattle.state.proofs.Opens.{listed_seat, listed_seats}
-use Rattle.state.specs.Changes.{apply, fits, listed_all, put_all, put_back, opened, closing, received, returnable, forgotten, trimmed}
+use Rattle.state.proofs.Opens.{listed_seat}
+use Rattle.state.specs.Changes.{apply, fits, put_back, opened, closing, received, returnable, forgotten, trimmed}
 use Rattle.state.specs.States.{State, place_of, is_open, among, was_closed, known, ticket_of}
 use Rattle.state.specs.declared.record.Record.{Record}
 use Rattle.state.specs.declared.record.Record.TheVariants.{Opened, Closed, Sold, Undone, Given, Taken, Heard}
 use Rattle.state.specs.declared.record.Sale.{Sale}
 use Rattle.state.specs.declared.record.Sale.TheVariants.{Stands, Returned}
 use Rattle.state.specs.declared.record.Slot.TheVariants.{Free}
-use Rattle.network.proofs.Count.{given_of, taken_of, standing_push, standing_trimmed, one, count_nil, count_append, count_returned, count_to, one_other, count_forgotten, count_forgotten_all}
-use Rattle.network.proofs.Held.{Sound, in_word, in_out, in_back, in_out_all, in_back_all, in_shut}
-use Rattle.network.proofs.Local.{ticket_at, or_false, fits_opened, fits_sold, fits_given, fits_taken}
+use Rattle.network.proofs.Count.{given_of, taken_of, standing_push, standing_trimmed, one, count_nil, count_push, count_returned, count_to, one_other, count_forgotten, count_forgotten_all}
+use Rattle.network.proofs.Held.{Sound, in_word, in_out, in_back, in_shut}
+use Rattle.network.proofs.Local.{or_false, fits_opened, fits_sold, fits_given, fits_taken}
 use Rattle.network.proofs.Moves.{Received, shut, there, anew, received_by}
 use Rattle.network.proofs.Sum.{sum_to, sum_zero}
 use Rattle.network.proofs.Trains.{share, opened_open, opened_same, opened_sound, in_opened, closing_same, closing_shut, closing_sound, in_closing}
@@ -120,11 +118,18 @@ module _ (n : ℕ) (tb : Table) (t : Train) (s u : ℕ) (l : s < 400) where
           evenly x (closing z x) 0 0 (omega (arith, e, i, c))
 
   -- a ticket is undone
-  undo_moved : (x : State) (m : Ticket) (p : Party) → Sound x → listed_all (tb p.train.0) p ≡ true → is_open x p.train ≡ true → ticket_of x m.0 ≡ Stands p → stock x ≤ 1 →
-      in_word t s u l (put_all x p) + count_in t s u (standing (set x.tickets (m.0 - 1 - x.dropped) Returned)) ≡ stock x
+  undo_moved : (x : State) (m : Ticket) (p : Piece) → Sound x → listed (tb p.train.0) p ≡ true → is_open x p.train ≡ true → ticket_of x m.0 ≡ Stands p → stock x ≤ 1 →
+      in_word t s u l (put_back x p) + count_in t s u (standing (set x.tickets (m.0 - 1 - x.dropped) Returned)) ≡ stock x
   undo_moved x m p h a o e r =
-      let b = count_returned t s u x.tickets (m.0 - 1 - x.dropped) p (ticket_at x m.0 p e) in
-      omega (arith, b, in_back_all t s u l x p.train p.trip (seats_of p) h o (listed_seats (tb p.train.0) p a) (omega (arith, b, r)))
+      let b = count_returned t s u x.tickets (m.0 - 1 - x.dropped) p stands in
+      omega (arith, b, in_back t s u l x p h o (listed_seat (tb p.train.0) p a) (omega (arith, b, r)))
+    where
+      stands : get_or x.tickets (m.0 - 1 - x.dropped) Returned ≡ Stands p
+      stands = go (ltb x.dropped m.0) e
+        where
+          go : (b : Bool) → cond b (get_or x.tickets (m.0 - 1 - x.dropped) Returned) Returned ≡ Stands p → get_or x.tickets (m.0 - 1 - x.dropped) Returned ≡ Stands p
+          go true f = f
+          go false f = let z : ◌≡◌ {A = ℕ} 0 1 = cc in absurd (omega arith)
 
   -- a piece is taken
   take_moved : (x y : State) (p : Piece) → Sound x → listed (tb p.train.0) p ≡ true → Received tb x p → received tb x p ≡ y → stock x + one t s u p + due y ≤ 1 + due x → Moved x y 0 (one t s u p)
@@ -152,15 +157,15 @@ module _ (n : ℕ) (tb : Table) (t : Train) (s u : ℕ) (l : s < 400) where
       go (Some v) e (_, k, q) = let (m, _) = open_moved x z v h k q e in evenly x (opened (Some v) z x) (all_given (Opened z)) (all_taken (Opened z)) (omega (arith, m, nil))
   moved x (Closed z) h c f r = let m = close_moved x z h f in record { most = omega (arith, m.most, nil); even = λ g. omega (arith, m.even g, nil) }
   moved x (Sold m p) h c f r =
-      let g = fits_sold tb x m p f in
+      let (a, o, b) = fits_sold tb x m p f in
       evenly x (apply tb x (Sold m p)) (all_given (Sold m p)) (all_taken (Sold m p))
-      (omega (arith, nil, in_out_all t s u l x p.train p.trip (seats_of p) h g.«open» g.held, ap (count_in t s u) (standing_push x.tickets p), count_append t s u (standing x.tickets) (pieces_of p)))
+      (omega (arith, nil, in_out t s u l x p h o (listed_seat (tb p.train.0) p a) b, ap (count_in t s u) (standing_push x.tickets p), count_push t s u (standing x.tickets) p))
   moved x (Undone m) h c f r = go (ticket_of x m.0) refl f
     where
       go : (y : Sale) → ticket_of x m.0 ≡ y → returnable tb x y ≡ true → Moved x (apply tb x (Undone m)) (all_given (Undone m)) (all_taken (Undone m))
       go Returned e g = absurd (false≢true g)
       go (Stands p) e g =
-          let (a, o) = and_parts (listed_all (tb p.train.0) p) (is_open x p.train) g in
+          let (a, o) = and_parts (listed (tb p.train.0) p) (is_open x p.train) g in
           let k = rw e at r in
           rw e (evenly x _ (all_given (Undone m)) (all_taken (Undone m)) (omega (arith, nil, undo_moved x m p h a o e (omega (arith, k, nil)))))
   moved x (Given to m p) h c f r =

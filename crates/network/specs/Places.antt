@@ -1,6 +1,5 @@
 -- Where a stretch of a seat is.
 use Rattle.std.specs.Prelude.{ℕ, zero, suc, ◌+◌, ◌-◌, Bool, cond, List, [], ◌∷◌, ◌++◌, drop, replicate}
-use Rattle.choosing.specs.Parties.{pieces_of}
 use Rattle.state.specs.States.{State, place}
 use Rattle.state.specs.declared.record.Sale.{Sale}
 use Rattle.state.specs.declared.record.Sale.TheVariants.{Stands, Returned}
@@ -23,13 +22,13 @@ count_in t s u [] = 0
 count_in t s u (p ∷ ps) = cond (has t.0 s u p) (1 + count_in t s u ps) (count_in t s u ps)
 
 -- the pieces of the tickets that stand
-abbrev pub sold_by : Sale → List Piece
-sold_by (Stands p) = pieces_of p
-sold_by Returned = []
+abbrev pub piece_of : Sale → List Piece
+piece_of (Stands p) = p ∷ []
+piece_of Returned = []
 
 unfoldable pub standing : List Sale → List Piece
 standing [] = []
-standing (x ∷ xs) = sold_by x ++ standing xs
+standing (x ∷ xs) = piece_of x ++ standing xs
 
 -- the pieces on their way from i, at a state x, to j, at a state y: what waits at i, without what j has taken and i has not heard of
 abbrev pub under_way : (i j : ℕ) → State → State → List Piece

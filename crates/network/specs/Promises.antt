@@ -1,34 +1,21 @@
 -- What is promised of every world that stations can come to. Each is a type; a proof of the type is the theorem.
-use Rattle.std.specs.Prelude.{◌≡◌, ℕ, ◌+◌, ◌<◌, ◌≤◌, min, true, false, ◌⊎◌, List, [], ◌∷◌, ◌++◌, length, take, Some, ◌≢◌, slice_index_or, slice_set}
+use Rattle.std.specs.Prelude.{◌≡◌, ℕ, ◌+◌, ◌<◌, true, false, ◌⊎◌, List, [], ◌∷◌, ◌++◌, length, Some, ◌≢◌, slice_index_or, slice_set}
 use mathlib.Core.List.{Memᴰ}
-use Rattle.choosing.specs.Choice.{Chosen, drawn_all, free}
-use Rattle.choosing.specs.Parties.{pieces_of, seats_of, unused}
-use Rattle.choosing.specs.declared.party.Party.{Party}
-use Rattle.giving.specs.Calls.{next_number, room}
-use Rattle.giving.specs.Channels.{other}
-use Rattle.giving.specs.declared.ids.StationId.{StationId}
-use Rattle.giving.specs.declared.ids.Ticket.{Ticket}
 use Rattle.giving.specs.declared.message.Body.TheVariants as body
 use Rattle.giving.specs.declared.message.Message.{Message}
-use Rattle.giving.specs.declared.refusal.Refusal.TheVariants.{NothingHeld, NoSuchTicket, Full}
 use Rattle.ledger.specs.Decisions.{decided, decided_open, listing, messages, after, records}
-use Rattle.state.specs.Changes.{apply}
-use Rattle.state.specs.States.{State, place, is_open, was_closed, known, openable, holds_piece, sold, ticket_of, tickets_left}
-use Rattle.ledger.specs.declared.input.Demand.{Demand}
+use Rattle.state.specs.States.{State, is_open, was_closed, known, openable, holds_piece, sold, tickets_left}
 use Rattle.ledger.specs.declared.input.Input.{Input}
 use Rattle.ledger.specs.declared.input.Input.TheVariants.{Close, Sell, Undo, Give, Take, Hear}
 use Rattle.ledger.specs.declared.input.Outcome.{Outcome}
-use Rattle.ledger.specs.declared.input.Outcome.TheVariants.{Done, Gave, Refused}
-use Rattle.state.specs.declared.record.Record.{Record}
-use Rattle.state.specs.declared.record.Record.TheVariants.{Sold, Undone}
+use Rattle.ledger.specs.declared.input.Outcome.TheVariants.{Done}
+use Rattle.state.specs.declared.record.Record.TheVariants.{Sold}
 use Rattle.state.specs.declared.record.Sale.TheVariants.{Stands, Returned}
-use Rattle.network.specs.Places.{holding, places, under_way}
+use Rattle.network.specs.Places.{places, under_way}
 use Rattle.network.specs.Worlds.{World, journal, state, Steps, Reach, Carries}
-use Rattle.pieces.specs.Memory.{word_at}
-use Rattle.pieces.specs.Parts.{blank, has}
+use Rattle.pieces.specs.Parts.{has}
 use Rattle.pieces.specs.declared.names.Train.{Train}
 use Rattle.pieces.specs.declared.piece.Piece.{Piece}
-use Rattle.std.specs.List.{AllByRecursion}
 use Rattle.timetable.specs.Rows.{Table, stretches}
 use Rattle.timetable.specs.declared.row.Row.{Row}
 
@@ -39,78 +26,22 @@ OnePlace = (n : ℕ) (tb : Table) (w : World) → Reach n tb w → (t : Train) (
     is_open (state n tb w r.first.0) t ≡ true → ((k : ℕ) → k < n → was_closed (state n tb w k) t ≡ false) →
     (s u : ℕ) → s < r.seats → u < stretches r → length (places n t s u (state n tb w)) ≡ 1
 
--- No stretch of a seat is sold twice: not under two tickets, of one station or of two, and not to two people of one ticket.
+-- No stretch of a seat is sold under two tickets, of one station or of two.
 abbrev pub NeverTwice : Type 0
-NeverTwice = (n : ℕ) (tb : Table) (w : World) → Reach n tb w → (i j a b k l : ℕ) (p q : Party) → i < n → j < n →
-    slice_index_or (state n tb w i).tickets a Returned ≡ Stands p → slice_index_or (state n tb w j).tickets b Returned ≡ Stands q →
-    k < length (pieces_of p) → l < length (pieces_of q) → ((i ≡ j) × (a ≡ b) × (k ≡ l) → ⊥) →
-    (t s u : ℕ) → has t s u (slice_index_or (pieces_of p) k blank) ≡ true → has t s u (slice_index_or (pieces_of q) l blank) ≢ true
+NeverTwice = (n : ℕ) (tb : Table) (w : World) → Reach n tb w → (i j a b : ℕ) (p q : Piece) → i < n → j < n →
+    slice_index_or (state n tb w i).tickets a Returned ≡ Stands p → slice_index_or (state n tb w j).tickets b Returned ≡ Stands q → ((i ≡ j) × (a ≡ b) → ⊥) →
+    (t s u : ℕ) → has t s u p ≡ true → has t s u q ≢ true
 
--- Nothing is held or sold that the train has not.
+-- Nothing is sold that the train has not.
 abbrev pub OnlyWhatIs : Type 0
-OnlyWhatIs = (n : ℕ) (tb : Table) (w : World) → Reach n tb w → (i : ℕ) →
-    ((t : Train) (s u : ℕ) → i < n → s < 400 → holding t s u (state n tb w i) ≡ true → (r : Row) × (tb t.0 ≡ Some r) × (s < r.seats) × (u < stretches r))
-    × ((a : ℕ) (p : Party) → slice_index_or (state n tb w i).tickets a Returned ≡ Stands p → (r : Row) × (tb p.train.0 ≡ Some r) × (p.trip.to.0 < r.stops) × AllByRecursion (λ (q : Piece). q.seat.0 < r.seats) (pieces_of p))
+OnlyWhatIs = (n : ℕ) (tb : Table) (w : World) → Reach n tb w → (i a : ℕ) (p : Piece) → slice_index_or (state n tb w i).tickets a Returned ≡ Stands p →
+    (r : Row) × (tb p.train.0 ≡ Some r) × (p.seat.0 < r.seats) × (p.to.0 < r.stops)
 
--- A ticket's number is never used again: of two sales in a station's journal the later one has the higher number.
-abbrev pub NumbersRise : Type 0
-NumbersRise = (n : ℕ) (tb : Table) (w : World) → Reach n tb w → (i : ℕ) (xs ys zs : List Record) (k l : Ticket) (p q : Party) →
-    journal w i ≡ xs ++ Sold k p ∷ (ys ++ Sold l q ∷ zs) → k.0 < l.0
-
--- the words of a train's seats at a station
-abbrev pub words_of : State → Train → ℕ → ℕ
-words_of x z = word_at x.words (place x z)
-
--- on how many seats a station holds a piece that covers a trip
-abbrev pub covering : State → Demand → ℕ
-covering x d = free (words_of x d.train) 400 d.from.0 d.to.0
-
--- one to eight people want a trip, from a stop up to a later one
-pub record Wanted (d : Demand) : Type 0 where
-  pub ordered : d.from.0 < d.to.0
-  pub someone : 1 ≤ d.people
-  pub few : d.people ≤ 8
-
--- the station has the train open, and the train has the trip
-pub record RunsThere (tb : Table) (x : State) (d : Demand) : Type 0 where
-  pub row : Row
-  pub is : tb d.train.0 ≡ Some row
-  pub «open» : is_open x d.train ≡ true
-  pub within : d.to.0 < row.stops
-
--- a party of m people on that trip, each on the seat that is the choice when those before have taken theirs
-pub record Seated (x : State) (d : Demand) (m : ℕ) (p : Party) : Type 0 where
-  pub train : p.train ≡ d.train
-  pub from : p.trip.from ≡ d.from
-  pub to : p.trip.to ≡ d.to
-  pub all : length (seats_of p) ≡ m
-  pub each : (k : ℕ) → k < m → Chosen (drawn_all (words_of x d.train) d.from.0 d.to.0 (take k (seats_of p))) 400 d.from.0 d.to.0 (Some (slice_index_or (seats_of p) k unused))
-
--- A station that has a seat for each of the people sells them, by the rule of choice, and says nothing to anybody, as long as it has a
--- number for the ticket; one that has fewer refuses by 4, and nothing is changed.
+-- A station that holds a piece sells it, and says nothing to anybody, as long as it has a number for the ticket.
 abbrev pub SellsAlone : Type 0
-SellsAlone = (n : ℕ) (tb : Table) (w : World) → Reach n tb w → (i : ℕ) (d : Demand) → i < n → Wanted d →
-    (d.people ≤ covering (state n tb w i) d → tickets_left (state n tb w i) ≡ true →
-    (p : Party) × (decided tb (state n tb w i) (Sell d) ≡ Done (Sold (record { 0 = sold (state n tb w i) + 1 }) p))
-    × Seated (state n tb w i) d d.people p
-    × (messages (after tb (state n tb w i) (decided tb (state n tb w i) (Sell d))) (Sell d) (decided tb (state n tb w i) (Sell d)) ≡ []))
-    × (RunsThere tb (state n tb w i) d → covering (state n tb w i) d < d.people →
-    (decided tb (state n tb w i) (Sell d) ≡ Refused NothingHeld) × (records (decided tb (state n tb w i) (Sell d)) ≡ []) × (after tb (state n tb w i) (decided tb (state n tb w i) (Sell d)) ≡ state n tb w i))
-
--- A station gives another as many seats as were asked for, as cover the trip and as may wait, by the rule of choice, under the
--- next numbers; it refuses by 6 only where none may wait or no number is left.
-abbrev pub GivesWhatItCan : Type 0
-GivesWhatItCan = (n : ℕ) (tb : Table) (w : World) → Reach n tb w → (i : ℕ) (d : Demand) → i < n → Wanted d → RunsThere tb (state n tb w i) d → (to : StationId) → other i (state n tb w i).channels to.0 ≡ true →
-    (0 < room (state n tb w i).channels to.0 →
-    (p : Party) × (decided tb (state n tb w i) (Give to d) ≡ Gave to (next_number (state n tb w i).channels to.0) p)
-    × Seated (state n tb w i) d (min (min d.people (room (state n tb w i).channels to.0)) (covering (state n tb w i) d)) p)
-    × (room (state n tb w i).channels to.0 ≡ 0 → decided tb (state n tb w i) (Give to d) ≡ Refused Full)
-
--- A ticket that stands can be undone, and then each of its pieces is held again; 5 is answered exactly where a station has no such ticket.
-abbrev pub Undoes : Type 0
-Undoes = (n : ℕ) (tb : Table) (w : World) → Reach n tb w → (i : ℕ) (m : Ticket) →
-    ((p : Party) → ticket_of (state n tb w i) m.0 ≡ Stands p → (decided tb (state n tb w i) (Undo m) ≡ Done (Undone m)) × AllByRecursion (λ (q : Piece). holds_piece (apply tb (state n tb w i) (Undone m)) q ≡ true) (pieces_of p))
-    × (ticket_of (state n tb w i) m.0 ≡ Returned → decided tb (state n tb w i) (Undo m) ≡ Refused NoSuchTicket)
+SellsAlone = (n : ℕ) (tb : Table) (w : World) → Reach n tb w → (i : ℕ) (p : Piece) → i < n → holds_piece (state n tb w i) p ≡ true → tickets_left (state n tb w i) ≡ true →
+    (decided tb (state n tb w i) (Sell p) ≡ Done (Sold (record { 0 = sold (state n tb w i) + 1 }) p))
+    × (messages (after tb (state n tb w i) (decided tb (state n tb w i) (Sell p))) (Sell p) (decided tb (state n tb w i) (Sell p)) ≡ [])
 
 -- what is left on its way is nothing, or begins with a piece that the other station has no room for: it does not know the train, and can open none
 abbrev pub Settled : List Piece → State → Type 0
@@ -137,9 +68,9 @@ Grows = (n : ℕ) (tb ub : Table) (w : World) → Extends tb ub → Reach n tb w
 -- what a station is told was said to it
 abbrev pub Heeds : List Message → ℕ → Input → Type 0
 Heeds ms i (Close t) = Unit {0}
-Heeds ms i (Sell d) = Unit {0}
+Heeds ms i (Sell p) = Unit {0}
 Heeds ms i (Undo m) = Unit {0}
-Heeds ms i (Give to d) = Unit {0}
+Heeds ms i (Give to p) = Unit {0}
 Heeds ms i (Take from m p) = Memᴰ (record { from = from; to = record { 0 = i }; body = body.Given m p }) ms
 Heeds ms i (Hear from m) = Memᴰ (record { from = from; to = record { 0 = i }; body = body.Taken m }) ms
 

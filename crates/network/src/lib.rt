@@ -1,7 +1,7 @@
 // Stations, each with its journal, and all that was ever said between them: each stretch of each seat is in one place.
 #![tactic(auto)]
 
-ghost use Rattle.network.specs.Promises.{OnePlace, NeverTwice, NumbersRise, OnlyWhatIs, SellsAlone, GivesWhatItCan, Undoes, Arrives, Grows, Runs};
+ghost use Rattle.network.specs.Promises.{OnePlace, NeverTwice, OnlyWhatIs, SellsAlone, Arrives, Grows, Runs};
 
 pub mod place;
 
@@ -19,37 +19,16 @@ pub fn never_twice_stands() -> u8
     0
 }
 
-// A ticket's number is never used again.
-pub fn numbers_rise_stands() -> u8
-    ensures { NumbersRise }
-{
-    0
-}
-
-// Nothing is held or sold that the train has not.
+// Nothing is sold that the train has not.
 pub fn only_what_is_stands() -> u8
     ensures { OnlyWhatIs }
 {
     0
 }
 
-// A station that has a seat for each of the people sells them, without a message; one that has fewer sells none.
+// A station that holds a piece sells it, without a message.
 pub fn sells_alone_stands() -> u8
     ensures { SellsAlone }
-{
-    0
-}
-
-// A station gives as many seats as it can, by the rule of choice.
-pub fn gives_what_it_can_stands() -> u8
-    ensures { GivesWhatItCan }
-{
-    0
-}
-
-// A ticket that stands can be undone.
-pub fn undoes_stands() -> u8
-    ensures { Undoes }
 {
     0
 }

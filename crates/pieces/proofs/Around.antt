@@ -1,6 +1,6 @@
 -- The runs of held stretches around a span. Assumes nothing.
-use Rattle.std.proofs.Common.{◌≡◌, ℕ, zero, suc, ◌+◌, ◌-◌, ◌<◌, ◌≤◌, true, false, refl, ap, ⊎_elim, arith}
-use Rattle.std.proofs.lemmas.Bool.{cond-true, cond-false, cond_both, cases_lt}
+use Rattle.std.proofs.Common.{◌≡◌, ℕ, zero, suc, ◌+◌, ◌-◌, ◌<◌, ◌≤◌, true, false, refl, ap, ◌∙◌, subst, ⊎_elim, arith}
+use Rattle.std.proofs.lemmas.Bool.{cond-true, cond-false, cond_both, cases_lt, cases_order}
 use Rattle.pieces.specs.Stretches.{holds, Covers, before, behind, spare, FirstOf, EndOf}
 
 -- ---- how much can be held
@@ -26,18 +26,27 @@ unfolding before
 before_none w zero h = refl
 before_none w (suc k) h = cond-false (holds w k) (suc (before w k)) 0 (h k refl)
 
-before_run : (w s m : ℕ) → Covers w s (s + m) → before w (s + m) ≡ before w s + m
-before_run w s zero c = let p : s + 0 ≡ s = omega arith in omega (arith, ap (before w) p)
-before_run w s (suc m) c =
-    let p : s + suc m ≡ suc (s + m) = omega arith in
-    omega (arith, ap (before w) p, before_held w (s + m) (c (s + m) (omega arith) (omega arith)), before_run w s m (λ k g h. c k g (omega arith)))
+-- the stretches from s to a are held
+pub record Back (w a s : ℕ) : Type 0 where
+  pub below : s ≤ a
+  pub all : Covers w s a
+  pub count : before w a + s ≡ before w s + a
 
-pub first_is : (w a s : ℕ) → s ≤ a → Covers w s a → ((k : ℕ) → suc k ≡ s → holds w k ≡ false) → (s + before w a ≡ a) × FirstOf w a s
-first_is w a s h c i =
-    let p : s + (a - s) ≡ a = omega arith in (
-      omega (arith, ap (before w) p, before_run w s (a - s) (λ k g l. c k g (omega arith)), before_none w s i),
-      record { below = h; all = c; stops = i },
-    )
+pub back_none : (w a : ℕ) → Back w a a
+back_none w a = record { below = omega arith; all = λ k g h. absurd (omega arith); count = refl }
+
+back_suc : (w a p : ℕ) → Back w a (suc p) → holds w p ≡ true → Back w a p
+back_suc w a p b h = record {
+  below = omega (arith, b.below);
+  all = λ k g i. ⊎_elim (λ e. ap (holds w) e ∙ h) (λ o. b.all k (⊎_elim (λ l. absurd (omega arith)) (λ l. l) o) i) (cases_order k p);
+  count = omega (arith, b.count, before_held w p h);
+}
+
+pub back_more : (w a s : ℕ) → 0 < s → Back w a s → holds w (s - 1) ≡ true → Back w a (s - 1)
+back_more w a s p b h = let e : s ≡ suc (s - 1) = omega arith in back_suc w a (s - 1) (subst (Back w a) e b) h
+
+pub back_all : (w a s : ℕ) → Back w a s → ((k : ℕ) → suc k ≡ s → holds w k ≡ false) → (s + before w a ≡ a) × FirstOf w a s
+back_all w a s b h = (omega (arith, b.count, before_none w s h), record { below = b.below; all = b.all; stops = h })
 
 -- ---- on from stop b
 

@@ -1,8 +1,11 @@
 -- A train's part of a list of words, read and written. Assumes nothing.
-use Rattle.std.proofs.Common.{◌≡◌, ℕ, ◌+◌, ◌-◌, ◌*◌, ◌<◌, ◌≤◌, List, [], ◌++◌, length, get_or, take, drop, set, replicate, sym, ap, ◌∙◌, ap₂, arith}
+use Rattle.std.proofs.Common.{◌≡◌, ℕ, ◌+◌, ◌-◌, ◌*◌, ◌<◌, ◌≤◌, List, [], ◌++◌, length, get_or, take, drop, set, replicate, Some, None, Option, sym, ap, ◌∙◌, subst, ap₂, arith, MatchOption}
 use borrow.Rule.Slice.PartMut.{put_mid}
 use Rattle.std.proofs.lemmas.List.{take_at, drop_at, drop_all, drop-drop, append-nil, length-replicate, length-drop, length-take-le, take-append-drop, get_or-take, get_or-drop, set-append_left, set-append_right}
+use Rattle.pieces.specs.declared.names.Seat.{Seat}
 use Rattle.pieces.specs.Memory.{seated, placed}
+use Rattle.pieces.specs.Search.{NoneCovers, Lowest}
+use Rattle.pieces.specs.Stretches.{Covers}
 
 -- the first n of 400 words written, and then the others
 pub seated_parts : (xs us vs : List ℕ) (n k w : ℕ) → n ≤ 400 → length xs ≡ 400 → k ≡ n → us ≡ replicate (length (take k xs)) w
@@ -49,3 +52,18 @@ pub part_anew : (xs vs ys : List ℕ) (k m : ℕ) → m ≡ 400 → ys ≡ vs �
 part_anew xs vs ys k m e g =
     ap₂ (λ z (j : ℕ). take (k * 400) xs ++ (z ++ drop j (drop (k * 400) xs))) g e
     ∙ ap (λ z. take (k * 400) xs ++ (vs ++ z)) (drop-drop 400 (k * 400) xs)
+
+-- the lowest seat of the part
+pub part_lowest : (xs : List ℕ) (i n m a b : ℕ) (r : Option Seat) → m ≡ n → i + n ≤ length xs
+    → MatchOption r (NoneCovers (λ s. get_or (take m (drop i xs)) s 0) (length (take m (drop i xs))) a b) (λ x. Lowest (λ s. get_or (take m (drop i xs)) s 0) (length (take m (drop i xs))) a b x.0)
+    → MatchOption r (NoneCovers (λ s. get_or xs (i + s) 0) n a b) (λ x. Lowest (λ s. get_or xs (i + s) 0) n a b x.0)
+part_lowest xs i n m a b None e h g =
+    let len : length (take m (drop i xs)) ≡ m = part_length xs i m (omega arith) in
+    λ s l c. g s (omega arith) (subst (λ w. Covers w a b) (sym (part_at xs i m s (omega arith))) c)
+part_lowest xs i n m a b (Some x) e h g =
+    let len : length (take m (drop i xs)) ≡ m = part_length xs i m (omega arith) in
+    let near : x.0 < m = omega (arith, g.0) in (
+      omega arith,
+      subst (λ w. Covers w a b) (part_at xs i m x.0 near) g.1,
+      λ s l c. g.2 s l (subst (λ w. Covers w a b) (sym (part_at xs i m s (omega arith))) c),
+    )

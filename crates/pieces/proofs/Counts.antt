@@ -1,57 +1,9 @@
--- Where a run begins and ends, by counts of zeros and ones. Assumes nothing.
-use Rattle.std.proofs.Common.{◌≡◌, ℕ, zero, suc, ◌+◌, ◌-◌, ◌*◌, ◌/◌, ◌%◌, ◌^◌, ◌<◌, ◌≤◌, min, Bool, true, false, not, ◌&&◌, eqb, ltb, leb, ◌⊎◌, sym, refl, ap, ◌∙◌, subst, ap₂, inl, inr, ⊎_elim, mod-lt, zero-lt-suc, pow-suc, one-add, arith, pow_pos, pow_mono, shr-shr}
-use lib.Bits.{bit_and, and_le_r}
-use lib.Count.{count_leading_zeros, count_trailing_zeros, under, leading_length}
-use Rattle.std.proofs.lemmas.Nat.{div_below, le-div, shr_le}
-use Rattle.std.proofs.lemmas.Bool.{and_from, le-leb, lt-ltb, cases_lt, true≢false, false≢true}
-use Rattle.pieces.specs.Stretches.{holds, span, before, behind, FirstOf, EndOf}
-use Rattle.pieces.proofs.Around.{first_is, end_is}
-use Rattle.pieces.proofs.Bitwise.{holds_and, holds_rest, holds_past, span_each}
-
--- ---- the gaps before stop a
-
-gap_none : (x y : Bool) → y ≡ true → (not x && y) ≡ false → x ≡ true
-gap_none true y h e = refl
-gap_none false y h e = absurd (true≢false (sym h ∙ e))
-
-gap_here : (x y : Bool) → (not x && y) ≡ true → x ≡ false
-gap_here true y e = absurd (false≢true e)
-gap_here false y e = refl
-
-abbrev gaps : ℕ → ℕ → ℕ
-gaps w m = bit_and ((2 ^ 64 - 1) - w) m
-
-low_each : (a m k : ℕ) → m ≡ 2 ^ a - 1 → k < a → holds m k ≡ true
-unfolding span
-low_each a m k e l = span_each m 0 a k (omega arith) e ∙ and_from (leb 0 k) (ltb k a) (le-leb 0 k (omega arith)) (lt-ltb k a l)
-
-gap_is : (w m k : ℕ) → w < 2 ^ 64 → k < 64 → holds (gaps w m) k ≡ (not (holds w k) && holds m k)
-gap_is w m k f l = holds_and ((2 ^ 64 - 1) - w) m k ∙ ap (λ x. x && holds m k) (holds_rest w 64 k f l)
-
--- the highest bit is set
-top_set : (g k : ℕ) → 2 ^ k ≤ g → g < 2 * 2 ^ k → holds g k ≡ true
-unfolding holds
-top_set g k h i =
-    let p = le-div 1 g (2 ^ k) (pow_pos k) (omega arith) in
-    let q = div_below g (2 ^ k) 2 (pow_pos k) i in
-    let e : g / 2 ^ k ≡ 1 = omega (arith, p, q) in
-    ap (λ (x : ℕ). eqb (x % 2) 1) e
-
-pub start_run : (w a m s : ℕ) → w < 2 ^ 64 → a < 64 → m ≡ 2 ^ a - 1 → s ≡ 64 - count_leading_zeros 64 (gaps w m) → (s + before w a ≡ a) × FirstOf w a s
-start_run w a m s f h e i =
-    let below : gaps w m < 2 ^ a = omega (arith, and_le_r ((2 ^ 64 - 1) - w) m, pow_pos a) in
-    let low : a ≤ 64 = omega arith in
-    let wide : 2 ^ a ≤ 2 ^ 64 = pow_mono low in
-    let len = leading_length 64 (gaps w m) (omega arith) in
-    let at : len.0 ≡ s = omega (arith, len.1) in
-    let under : gaps w m < 2 ^ s = subst (λ (x : ℕ). gaps w m < 2 ^ x) at len.2 in
-    let over : 2 ^ s ≤ 2 * gaps w m + 1 = subst (λ (x : ℕ). 2 ^ x ≤ 2 * gaps w m + 1) at len.3 in
-    let near : s ≤ a = ⊎_elim (λ l. let p : 2 ^ suc a ≤ 2 ^ s = pow_mono l in absurd (omega (arith, pow-suc 2 a))) (λ l. l) (cases_lt a s) in
-    first_is w a s near
-    (λ k g l. gap_none (holds w k) (holds m k) (low_each a m k e l) (sym (gap_is w m k f (omega arith)) ∙ holds_past (gaps w m) s k under g))
-    (λ k q.
-    let d : 2 ^ s ≡ 2 ^ k * 2 = ap (λ (x : ℕ). 2 ^ x) (sym q) ∙ pow-suc 2 k in
-    gap_here (holds w k) (holds m k) (sym (gap_is w m k f (omega arith)) ∙ top_set (gaps w m) k (omega arith) (omega arith)))
+-- Where a run ends, by a count of ones. Assumes nothing.
+use Rattle.std.proofs.Common.{◌≡◌, ℕ, zero, suc, ◌+◌, ◌-◌, ◌/◌, ◌%◌, ◌^◌, ◌<◌, ◌≤◌, min, true, false, eqb, ◌⊎◌, sym, refl, ap, ◌∙◌, subst, ap₂, inl, inr, ⊎_elim, mod-lt, zero-lt-suc, pow-suc, one-add, arith, shr-shr}
+use lib.Count.{count_trailing_zeros, under}
+use Rattle.std.proofs.lemmas.Nat.{shr_le}
+use Rattle.pieces.specs.Stretches.{holds, behind, EndOf}
+use Rattle.pieces.proofs.Around.{end_is}
 
 -- ---- the ones from stop b on
 

@@ -2,5 +2,6 @@ pub mod Stretches
 pub mod Parts
 pub mod Memory
 pub mod Cuts
+pub mod Search
 pub mod Counts
 pub mod Laws

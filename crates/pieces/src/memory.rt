@@ -1,12 +1,13 @@
 // The seats of all open trains in one slice: 64 places, with 400 words each.
-ghost use Rattle.std.specs.Prelude.{◌≡◌, ◌<◌, ◌≤◌, length};
+ghost use Rattle.std.specs.Prelude.{◌≡◌, ◌<◌, ◌≤◌, length, MatchOption};
 ghost use Rattle.pieces.specs.Memory.{word_at, without, together, without_all, together_all, seated, placed};
+ghost use Rattle.pieces.specs.Search.{NoneCovers, Lowest};
 ghost use Rattle.pieces.specs.Stretches.{holds, covered};
 ghost use Rattle.pieces.specs.declared.names.Seat.{Seat as Chair};
 ghost use Rattle.std.specs.List.{AllByRecursion};
 
 use crate::names::{Seat, Stop};
-use crate::seats::{put_in, seat_all, take_out};
+use crate::seats::{lowest, put_in, seat_all, take_out};
 use crate::trip::Trip;
 use crate::words::{covers, held};
 
@@ -75,4 +76,14 @@ pub fn holds_at(all: &[u64], place: usize, seat: Seat, stop: Stop) -> bool
     ensures { result ≡ holds (word_at all.now place seat.0) stop.0 }
 {
     held(all[place * SEATS + usize::from(seat.0)], stop)
+}
+
+// The lowest of the first `count` seats of the train at a place that covers the trip.
+pub fn lowest_at(all: &[u64], place: usize, count: u16, trip: Trip) -> Option<Seat>
+    requires { (length all.now ≡ 25600) × ((place < 64) × (count ≤ 400)) }
+    ensures { MatchOption result (NoneCovers (word_at all.now place) count trip.from.0 trip.to.0)
+        (λ seat. Lowest (word_at all.now place) count trip.from.0 trip.to.0 seat.0) }
+{
+    let first = place * SEATS;
+    lowest(&all[first..first + usize::from(count)], trip)
 }

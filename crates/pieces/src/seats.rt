@@ -1,11 +1,12 @@
 // The seats of one train, a word for each.
-ghost use Rattle.std.specs.Prelude.{◌≡◌, ◌-◌, ◌<◌, ◌≤◌, length, slice_index, slice_set};
+ghost use Rattle.std.specs.Prelude.{◌≡◌, ◌-◌, ◌<◌, ◌≤◌, length, MatchOption, slice_index, slice_set};
 ghost use Rattle.pieces.specs.Memory.{seated};
+ghost use Rattle.pieces.specs.Search.{NoneCovers, Lowest};
 ghost use Rattle.pieces.specs.Stretches.{span, less, plus};
 
 use crate::names::Seat;
 use crate::trip::Trip;
-use crate::words::{put_back, taken_out};
+use crate::words::{covers, put_back, taken_out};
 
 // Takes the trip out of a seat.
 pub fn take_out(seats: &mut [u64], seat: Seat, trip: Trip)
@@ -41,4 +42,18 @@ pub fn full(stops: u8) -> u64
     ensures { result ≡ span 0 (stops - 1) }
 {
     (1 << (stops - 1)) - 1
+}
+
+// The lowest seat that covers the trip.
+pub fn lowest(seats: &[u64], trip: Trip) -> Option<Seat>
+    requires { length seats.now ≤ 400 }
+    ensures { MatchOption result (NoneCovers (λ s. slice_index seats.now s) (length seats.now) trip.from.0 trip.to.0)
+        (λ seat. Lowest (λ s. slice_index seats.now s) (length seats.now) trip.from.0 trip.to.0 seat.0) }
+{
+    for (seat, word) in seats.iter().enumerate() {
+        if covers(*word, trip) {
+            return Some(Seat(seat as u16));
+        }
+    }
+    None
 }

@@ -52,14 +52,16 @@ pub fn put_back(word: u64, trip: Trip) -> u64
     word | mask(trip)
 }
 
-// The stop where the run of held stretches begins that ends at stop `from`: where the last gap before it ends.
+// The stop where the run of held stretches begins that ends at stop `from`.
 fn run_start(word: u64, from: Stop) -> u8
-    requires { from.0 < 30 }
     ensures value { result + before word from.0 ≡ from.0 }
     ensures run { FirstOf word from.0 result }
 {
-    let gaps = !word & ((1 << from.0) - 1);
-    (64 - gaps.leading_zeros()) as u8
+    let mut start = from.0;
+    while start > 0 && held(word, Stop(start - 1)) {
+        start -= 1;
+    }
+    start
 }
 
 // The stop where the run of held stretches ends that begins at stop `to`: 29 at most.

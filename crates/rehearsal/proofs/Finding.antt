@@ -1,10 +1,8 @@
 -- A stretch of a seat counted in what a station has sold and in what waits, one place at a time.
 -- Assumes nothing.
-use Rattle.std.proofs.Common.{◌≡◌, ℕ, zero, suc, ◌+◌, ◌-◌, ◌<◌, ◌≤◌, Bool, true, false, cond, ◌&&◌, ltb, ◌⊎◌, List, [], ◌∷◌, ◌++◌, map, length, get_or, take, drop, replicate, sym, refl, ap, ◌∙◌, subst, ap₂, inl, inr, append_assoc, append-nil, add-one, arith}
+use Rattle.std.proofs.Common.{◌≡◌, ℕ, ◌+◌, ◌-◌, ◌<◌, ◌≤◌, Bool, true, false, cond, ◌&&◌, ltb, ◌⊎◌, List, [], ◌∷◌, ◌++◌, map, length, get_or, drop, replicate, sym, refl, ap, ◌∙◌, subst, ap₂, inl, inr, append_assoc, append-nil, add-one, arith}
 use mathlib.Core.Bool.{Bool-set}
 use mathlib.Core.Logic.{∥∥₁_elim}
-use Rattle.choosing.specs.Parties.{pieces_of, seats_of, unused}
-use Rattle.choosing.specs.declared.party.Party.{Party}
 use Rattle.giving.specs.Channels.{line}
 use Rattle.giving.specs.Posts.{chans}
 use Rattle.giving.specs.declared.channels.Channels.{Channels}
@@ -13,11 +11,9 @@ use Rattle.giving.specs.declared.message.Message.{Message}
 use Rattle.network.proofs.Count.{one, count_nil, count_cons, count_append}
 use Rattle.network.proofs.Held.{Sound, in_shut}
 use Rattle.network.proofs.Linked.{ok_reach}
-use Rattle.network.specs.Places.{holding, count_in, sold_by, standing, under_way, gather}
+use Rattle.network.specs.Places.{holding, count_in, piece_of, standing, under_way, gather}
 use Rattle.pieces.specs.Memory.{word_at}
-use Rattle.pieces.specs.Parts.{blank, piece_of}
 use Rattle.pieces.specs.Stretches.{holds}
-use Rattle.pieces.specs.declared.names.Seat.{Seat}
 use Rattle.pieces.specs.declared.names.Train.{Train}
 use Rattle.pieces.specs.declared.piece.Piece.{Piece}
 use Rattle.rehearsal.proofs.Living.{here_is}
@@ -25,26 +21,30 @@ use Rattle.rehearsal.specs.Lives.{Lives, shown, nowhere}
 use Rattle.rehearsal.specs.declared.post.Post.{Post}
 use Rattle.state.specs.States.{State, place, is_open}
 use Rattle.state.specs.declared.record.Sale.{Sale}
-use Rattle.state.specs.declared.record.Sale.TheVariants.{Returned}
-use Rattle.std.proofs.lemmas.List.{at_drop_more, at_drop_all, get_or-map, length-map, replicate_more, take_more}
+use Rattle.state.specs.declared.record.Sale.TheVariants.{Stands, Returned}
+use Rattle.std.proofs.lemmas.List.{at_drop_more, at_drop_all, replicate_more}
 use Rattle.std.proofs.lemmas.Bool.{cases_Bool, lt-ltb}
 use Rattle.timetable.specs.Rows.{Table}
 
 module _ (t : Train) (s u : ℕ) where
   -- ---- tickets
 
-  sold_push : (xs : List Sale) (y : Sale) → count_in t s u (standing (xs ++ y ∷ [])) ≡ count_in t s u (standing xs) + count_in t s u (sold_by y)
+  standing_cons : (x : Sale) (xs : List Sale) → count_in t s u (standing (x ∷ xs)) ≡ count_in t s u (piece_of x) + count_in t s u (standing xs)
   unfolding standing
-  sold_push [] y = omega (arith, count_append t s u (sold_by y) [], count_nil t s u)
-  sold_push (x ∷ xs) y = omega (arith, sold_push xs y, count_append t s u (sold_by x) (standing xs), count_append t s u (sold_by x) (standing (xs ++ y ∷ [])))
+  standing_cons x xs = count_append t s u (piece_of x) (standing xs)
 
-  -- one ticket more
-  pub sold_more : (xs : List Sale) (k : ℕ) (y : Sale) → k < length xs → y ≡ get_or xs k Returned → count_in t s u (standing (take (k + 1) xs)) ≡ count_in t s u (standing (take k xs)) + count_in t s u (sold_by y)
-  sold_more xs k y l e = ap (λ ys. count_in t s u (standing ys)) (take_more xs k Returned l) ∙ sold_push (take k xs) (get_or xs k Returned) ∙ ap (λ z. count_in t s u (standing (take k xs)) + count_in t s u (sold_by z)) (sym e)
+  sold_step : (xs : List Sale) (k : ℕ) → k < length xs → count_in t s u (standing (drop k xs)) ≡ count_in t s u (piece_of (get_or xs k Returned)) + count_in t s u (standing (drop (k + 1) xs))
+  sold_step xs k l = at_drop_more (λ ys. count_in t s u (standing ys)) xs k Returned l ∙ standing_cons (get_or xs k Returned) (drop (k + 1) xs)
 
-  pub sold_none : (xs : List Sale) → count_in t s u (standing (take 0 xs)) ≡ 0
+  pub sold_stands : (xs : List Sale) (k : ℕ) (p : Piece) → k < length xs → Stands p ≡ get_or xs k Returned → count_in t s u (standing (drop k xs)) ≡ one t s u p + count_in t s u (standing (drop (k + 1) xs))
+  sold_stands xs k p l e = omega (arith, sold_step xs k l, ap (λ x. count_in t s u (piece_of x)) e, count_cons t s u p [], count_nil t s u)
+
+  pub sold_returned : (xs : List Sale) (k : ℕ) → k < length xs → Returned ≡ get_or xs k Returned → count_in t s u (standing (drop k xs)) ≡ count_in t s u (standing (drop (k + 1) xs))
+  sold_returned xs k l e = omega (arith, sold_step xs k l, ap (λ x. count_in t s u (piece_of x)) e, count_nil t s u)
+
+  pub sold_all : (xs : List Sale) (k : ℕ) → length xs ≤ k → count_in t s u (standing (drop k xs)) ≡ 0
   unfolding standing
-  sold_none xs = count_nil t s u
+  sold_all xs k l = at_drop_all (λ ys. count_in t s u (standing ys)) xs k l ∙ count_nil t s u
 
   -- ---- pieces
 
@@ -53,26 +53,6 @@ module _ (t : Train) (s u : ℕ) where
 
   pub waits_all : (ps : List Piece) (k : ℕ) → length ps ≤ k → count_in t s u (drop k ps) ≡ 0
   waits_all ps k l = at_drop_all (count_in t s u) ps k l ∙ count_nil t s u
-
--- the pieces of a party, one seat at a time
-module _ (t : Train) (s u : ℕ) (p : Party) (ss : List Seat) (is : ss ≡ seats_of p) (k : ℕ) where
-  long : length (pieces_of p) ≡ length ss
-  long = length-map (seats_of p) (λ x. piece_of p.train x p.trip) ∙ ap length (sym is)
-
-  pub party_step : (x : Piece) → k < length ss → x ≡ piece_of p.train (get_or ss k unused) p.trip → count_in t s u (drop k (pieces_of p)) ≡ one t s u x + count_in t s u (drop (k + 1) (pieces_of p))
-  party_step x l e = waits_step t s u (pieces_of p) k blank x (omega (arith, long))
-      (e ∙ ap (λ xs. piece_of p.train (get_or xs k unused) p.trip) is ∙ sym (get_or-map (λ y. piece_of p.train y p.trip) (seats_of p) k unused blank (omega (arith, ap length is))))
-
-  pub party_all : length ss ≤ k → count_in t s u (drop k (pieces_of p)) ≡ 0
-  party_all l = waits_all t s u (pieces_of p) k (omega (arith, long))
-
--- the same some more times
-replicate_add : {A : Type 0} (a b : ℕ) (p : A) → replicate (a + b) p ≡ replicate a p ++ replicate b p
-replicate_add zero b p = let e : 0 + b ≡ b = omega arith in ap (λ (n : ℕ). replicate n p) e
-replicate_add (suc a) b p = let e : suc a + b ≡ suc (a + b) = omega arith in ap (λ (n : ℕ). replicate n p) e ∙ ap (λ l. p ∷ l) (replicate_add a b p)
-
-pub many_more : {A : Type 0} (xs ys zs : List A) (a b n : ℕ) (p : A) → ys ≡ xs ++ replicate a p → zs ≡ ys ++ replicate b p → n ≡ a + b → zs ≡ xs ++ replicate n p
-many_more xs ys zs a b n p e f g = f ∙ ap (λ l. l ++ replicate b p) e ∙ append_assoc xs (replicate a p) (replicate b p) ∙ ap (λ l. xs ++ l) (sym (replicate_add a b p) ∙ ap (λ (m : ℕ). replicate m p) (sym g))
 
 -- the same one more time
 pub again_more : {A : Type 0} (xs ys zs : List A) (k : ℕ) (p : A) → ys ≡ xs ++ replicate k p → zs ≡ ys ++ p ∷ [] → zs ≡ xs ++ replicate (k + 1) p

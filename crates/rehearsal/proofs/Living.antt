@@ -14,8 +14,8 @@ use Rattle.ledger.proofs.Decided.{opens_admitted}
 use Rattle.ledger.specs.Decisions.{decided, decided_open, listing, after, records, messages, for_memory}
 use Rattle.ledger.specs.declared.input.Input.{Input}
 use Rattle.ledger.specs.declared.input.Outcome.{Outcome}
-use Rattle.ledger.specs.declared.input.Outcome.TheVariants.{Done, Gave, Nothing, Passed, Refused}
-use Rattle.network.proofs.Bridge.{calls_any, opening, steps_then, put_extends, folded_append}
+use Rattle.ledger.specs.declared.input.Outcome.TheVariants.{Done, Nothing, Passed, Refused}
+use Rattle.network.proofs.Bridge.{calls_any, opening, steps_then, put_extends}
 use Rattle.network.proofs.Grow.{grows}
 use Rattle.network.proofs.Lists.{slice_index_same}
 use Rattle.network.proofs.Once.{once}
@@ -34,6 +34,7 @@ use Rattle.state.specs.Changes.{apply}
 use Rattle.state.specs.States.{State, begun, is_open, was_closed}
 use Rattle.state.specs.declared.record.Record.{Record}
 use Rattle.std.proofs.lemmas.List.{map_push, replicate_more, get_or_past, get_or_default}
+use Rattle.std.proofs.lemmas.List.Sums.{fold_push}
 use Rattle.std.proofs.lemmas.Bool.{cases_eq, cases_lt, false≢true}
 use Rattle.timetable.specs.Rows.{Table, stretches}
 use Rattle.timetable.specs.declared.row.Row.{Row}
@@ -61,7 +62,10 @@ module _ (tb : Table) (ps : List Post) (ms : List Message) (lives : Lives tb ps 
 
         -- the records of an outcome, and what they make of a state
         made : (x : State) (l : List Record) (o : Outcome) → fold (apply ub) x (l ++ records o) ≡ after ub (fold (apply ub) x l) o
-        made x l o = folded_append (apply ub) x l (records o)
+        made x l (Done z) = fold_push (apply ub) x l z
+        made x l Nothing = ap (fold (apply ub) x) (append-nil l)
+        made x l (Passed z) = ap (fold (apply ub) x) (append-nil l)
+        made x l (Refused z) = ap (fold (apply ub) x) (append-nil l)
 
         go : (k : ℕ) → k < length ps → (k ≡ i) ⊎ (k ≡ i → ⊥) → get_or (set (map shown ps) i (shown q)) k nowhere ≡ fold (apply ub) (begun (length ps) k) (get_or (set (map journal_of ps) i (journal (world_of ps ms) i ++ records o)) k [])
         go k l (inl d) =
@@ -85,7 +89,6 @@ module _ (tb : Table) (ps : List Post) (ms : List Message) (lives : Lives tb ps 
     -- an opening
     extends : (r : Row) (o : Outcome) → (for_memory o ≡ false → o ≡ decided_open tb (shown p) r) → Extends tb (listing tb r o)
     extends r (Done z) a = put_extends tb r (opens_admitted tb (shown p) r z (sym (a refl)))
-    extends r (Gave to n z) a = λ k q f. f
     extends r Nothing a = λ k q f. f
     extends r (Passed z) a = λ k q f. f
     extends r (Refused z) a = λ k q f. f

@@ -74,9 +74,9 @@ input_of from (body.Taken n) = Hear from n
 -- what a request at the counter is to the station
 abbrev pub asking : Request → Input
 asking (request.Close t) = Close t
-asking (request.Sell d) = Sell d
+asking (request.Sell p) = Sell p
 asking (request.Undo n) = Undo n
-asking (request.Give to d) = Give to d
+asking (request.Give to p) = Give to p
 
 -- a message that is there, and goes to a station that is there
 abbrev pub Deliverable : Code → ℕ → Message → Type 0

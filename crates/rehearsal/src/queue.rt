@@ -49,7 +49,7 @@ impl Queue {
 
     // Adds the messages from one place up to another, in order.
     pub fn add(&mut self, from: usize, to: usize) -> Result<(), AllocError>
-        ensures { OnOk result ((from ≤ to → self.new.places.items ≡ self.old.places.items ++ gather (to - from) (λ k. (from + k) ∷ []))) }
+        ensures { OnOk result (from ≤ to → self.new.places.items ≡ self.old.places.items ++ gather (to - from) (λ k. (from + k) ∷ [])) }
     {
         for at in from..to {
             self.places.push_back(at)?;

@@ -1,12 +1,12 @@
 // What a station is asked at its counter.
 use giving::ids::{StationId, Ticket};
-use ledger::input::Demand;
 use pieces::names::Train;
+use pieces::piece::Piece;
 
 #[derive(Clone, Copy, Drop)]
 pub enum Request {
     Close(Train),
-    Sell(Demand),
+    Sell(Piece),
     Undo(Ticket),
-    Give(StationId, Demand),
+    Give(StationId, Piece),
 }

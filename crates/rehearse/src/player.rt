@@ -1,14 +1,15 @@
 // The world of a script, and the line of messages between its stations.
 use crate::map::train_map;
 use giving::ids::{StationId, Ticket};
-use ledger::input::Demand;
-use pieces::names::{Stop, Train};
+use giving::refusal::Refusal;
+use pieces::names::{Seat, Train};
+use pieces::piece::Piece;
 use rehearsal::queue::Queue;
 use rehearsal::request::Request;
 use rehearsal::world::World;
 use script::command::{Command, Deed, read};
-use script::show::out;
-use script::values::{byte, station_id};
+use script::show::{out, refused};
+use script::values::{station_id, trip};
 use std::alloc::{AllocError, Global};
 use std::str::from_utf8;
 
@@ -124,25 +125,38 @@ impl Player {
                 self.answer(heap, who, outcome)
             }
             Deed::Sell(t, a, b, n) => {
-                let outcome = self.world.ask(who, Request::Sell(demand(t, a, b, n)));
+                let Some(piece) = self.choose(who, t, a, b, n) else {
+                    return refused(heap, who, "no", Refusal::Malformed);
+                };
+                let outcome = self.world.ask(who, Request::Sell(piece));
                 self.answer(heap, who, outcome)
             }
             Deed::Give(j, t, a, b, n) => {
-                let request = Request::Give(station_id(j), demand(t, a, b, n));
-                let outcome = self.world.ask(who, request);
-                self.answer(heap, who, outcome)
+                let Some(piece) = self.choose(who, t, a, b, n) else {
+                    return refused(heap, who, "no", Refusal::Malformed);
+                };
+                let outcome = self.world.ask(who, Request::Give(station_id(j), piece));
+                self.given(heap, who, j, outcome)
             }
             Deed::Tick => self.tick(heap, who),
         }
     }
-}
 
-// The trip that so many people want, as a line says it.
-fn demand(train: u32, from: u32, to: u32, people: u32) -> Demand {
-    Demand {
-        train: Train(train),
-        from: Stop(byte(from)),
-        to: Stop(byte(to)),
-        people: byte(people),
+    // The piece that is taken for a trip of one traveller: of the lowest seat that covers it, and of seat 0 where none does.
+    fn choose(&self, who: StationId, train: u32, from: u32, to: u32, count: u32) -> Option<Piece> {
+        if count != 1 {
+            return None;
+        }
+        let trip = trip(from, to)?;
+        let train = Train(train);
+        let mut seat = Seat(0);
+        if let Some(row) = self.world.row(train) {
+            if let Some(station) = self.world.station(who) {
+                if let Some(lowest) = station.lowest(train, row.seats, trip) {
+                    seat = lowest;
+                }
+            }
+        }
+        Some(Piece::new(train, seat, trip))
     }
 }

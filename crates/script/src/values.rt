@@ -3,24 +3,28 @@ ghost use Rattle.std.specs.Prelude.{◌≡◌, ◌<◌, min, true, MatchOption};
 ghost use Rattle.timetable.specs.Additions.{rowable};
 
 use giving::ids::StationId;
-use pieces::names::Train;
+use pieces::names::{Stop, Train};
+use pieces::trip::Trip;
 use timetable::row::Row;
 
-// A number as a byte: one that is none is 255, which is no stop, and too many people.
-pub fn byte(number: u32) -> u8
-    ensures { result ≡ min number 255 }
+// The trip from a stop to a stop, where both can be stops.
+pub fn trip(from: u32, to: u32) -> Option<Trip>
+    ensures { MatchOption result ((from < to) × (to < 30) → ⊥) (λ t. (t.from.0 ≡ from) × (t.to.0 ≡ to)) }
 {
-    if number > 255 {
-        return 255;
+    if from > 255 || to > 255 {
+        return None;
     }
-    number as u8
+    Trip::new(Stop(from as u8), Stop(to as u8))
 }
 
 // A station by its number; one that cannot be is the last of all, which is never there.
 pub fn station_id(number: u32) -> StationId
     ensures { result.0 ≡ min number 255 }
 {
-    StationId(byte(number))
+    if number > 255 {
+        return StationId(255);
+    }
+    StationId(number as u8)
 }
 
 // The row of a train, where it can be one.

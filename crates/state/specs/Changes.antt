@@ -1,7 +1,5 @@
 -- The change that each record makes, and where a record may stand.
-use Rattle.std.specs.Prelude.{ℕ, suc, ◌+◌, ◌-◌, Bool, true, false, cond, not, ◌&&◌, ◌||◌, List, [], ◌∷◌, ◌++◌, map, length, drop, is_some, Some, None, Option, ◌==◌, nat_lt, slice_set}
-use Rattle.choosing.specs.Parties.{below, seats_of, some}
-use Rattle.choosing.specs.declared.party.Party.{Party}
+use Rattle.std.specs.Prelude.{ℕ, suc, ◌+◌, ◌-◌, Bool, false, cond, not, ◌&&◌, ◌||◌, List, [], ◌∷◌, ◌++◌, map, drop, is_some, Some, None, Option, ◌==◌, slice_set}
 use Rattle.giving.specs.Channels.{Chan, gave, took, heard_to, line, news, numbered, roomy, other}
 use Rattle.giving.specs.declared.ids.StationId.{StationId}
 use Rattle.state.specs.States.{State, place_of, place, is_open, was_closed, known, openable, holds_piece, sold, tickets_left, ticket_of}
@@ -10,7 +8,7 @@ use Rattle.state.specs.declared.record.Record.TheVariants.{Opened, Closed, Sold,
 use Rattle.state.specs.declared.record.Sale.{Sale}
 use Rattle.state.specs.declared.record.Sale.TheVariants.{Stands, Returned}
 use Rattle.state.specs.declared.record.Slot.TheVariants.{Free, Open}
-use Rattle.pieces.specs.Memory.{without, together, without_all, together_all, covered_all, seated, placed}
+use Rattle.pieces.specs.Memory.{without, together, seated, placed}
 use Rattle.pieces.specs.Stretches.{span}
 use Rattle.pieces.specs.declared.names.Train.{Train}
 use Rattle.pieces.specs.declared.piece.Piece.{Piece}
@@ -36,17 +34,6 @@ taken_out s p = with_words s (without s.words (place s p.train) p.seat.0 p.from.
 
 abbrev pub put_back : State → Piece → State
 put_back s p = with_words s (together s.words (place s p.train) p.seat.0 p.from.0 p.to.0)
-
--- the pieces of a party taken out of what is held, one after the other, and put back
-abbrev pub taken_all : State → Party → State
-taken_all s p = with_words s (without_all s.words (place s p.train) (seats_of p) p.trip.from.0 p.trip.to.0)
-
-abbrev pub put_all : State → Party → State
-put_all s p = with_words s (together_all s.words (place s p.train) (seats_of p) p.trip.from.0 p.trip.to.0)
-
--- each piece of a party is held, when those before are taken out
-abbrev pub holds_all : State → Party → Bool
-holds_all s p = covered_all s.words (place s p.train) (seats_of p) p.trip.from.0 p.trip.to.0
 
 -- ---- trains
 
@@ -82,13 +69,13 @@ received tb s p = cond (was_closed s p.train) s (put_back (cond (is_open s p.tra
 -- ---- the change that a record makes
 
 abbrev pub returned : Sale → State → State
-returned (Stands p) s = put_all s p
+returned (Stands p) s = put_back s p
 returned Returned s = s
 
 abbrev pub apply : Table → State → Record → State
 apply tb s (Opened t) = opened (tb t.0) t s
 apply tb s (Closed t) = closing t s
-apply tb s (Sold n p) = with_tickets (taken_all s p) (s.tickets ++ Stands p ∷ [])
+apply tb s (Sold n p) = with_tickets (taken_out s p) (s.tickets ++ Stands p ∷ [])
 apply tb s (Undone n) = with_tickets (returned (ticket_of s n.0) s) (slice_set s.tickets (n.0 - 1 - s.dropped) Returned)
 apply tb s (Given to n p) = with_line (taken_out s p) to (gave (line s.channels to.0) p)
 apply tb s (Taken from n p) = with_line (received tb s p) from (took (line s.channels from.0))
@@ -96,25 +83,15 @@ apply tb s (Heard from n) = with_line s from (heard_to (line s.channels from.0) 
 
 -- ---- where a record may stand
 
--- the train is in the timetable, and has each seat and the stops of a party
-abbrev pub listed_all : Option Row → Party → Bool
-listed_all None p = false
-listed_all (Some r) p = nat_lt p.trip.to.0 r.stops && below r.seats (seats_of p)
-
 abbrev pub returnable : Table → State → Sale → Bool
-returnable tb s (Stands p) = listed_all (tb p.train.0) p && is_open s p.train
+returnable tb s (Stands p) = listed (tb p.train.0) p && is_open s p.train
 returnable tb s Returned = false
 
 abbrev pub fits : Table → State → Record → Bool
 fits tb s (Opened t) = is_some (tb t.0) && (not (known s t) && openable s)
 fits tb s (Closed t) = is_open s t
-fits tb s (Sold n p) = some (length (seats_of p)) && (listed_all (tb p.train.0) p && (is_open s p.train && (holds_all s p && (tickets_left s && n.0 == sold s + 1))))
+fits tb s (Sold n p) = listed (tb p.train.0) p && (is_open s p.train && (holds_piece s p && (tickets_left s && n.0 == sold s + 1)))
 fits tb s (Undone n) = returnable tb s (ticket_of s n.0)
 fits tb s (Given to n p) = listed (tb p.train.0) p && (is_open s p.train && (holds_piece s p && (roomy s.channels && (numbered (line s.channels to.0) && (other s.me s.channels to.0 && n.0 == (line s.channels to.0).given + 1)))))
 fits tb s (Taken from n p) = listed (tb p.train.0) p && (other s.me s.channels from.0 && (n.0 == (line s.channels from.0).taken + 1 && (known s p.train || openable s)))
 fits tb s (Heard from n) = other s.me s.channels from.0 && news (line s.channels from.0) n.0
-
--- each of several records fits, behind those before
-abbrev pub all_fit : Table → State → List Record → Bool
-all_fit tb s [] = true
-all_fit tb s (e ∷ es) = fits tb s e && all_fit tb (apply tb s e) es

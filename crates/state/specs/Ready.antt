@@ -1,10 +1,6 @@
 -- What a record needs besides that it fits, and the smaller changes that records are made of.
 use Rattle.std.specs.Prelude.{◌≡◌, ◌+◌, ◌<◌, ◌≤◌, true, vec_len, vec_capacity}
-use Rattle.choosing.specs.Parties.{seats_of}
-use Rattle.choosing.specs.declared.party.Party.{Party}
-use Rattle.pieces.specs.declared.names.Seat.{Seat}
 use Rattle.pieces.specs.declared.piece.Piece.{Piece}
-use Rattle.std.specs.List.{AllByRecursion}
 use Rattle.state.specs.Changes.{stale, trimmed}
 use Rattle.state.specs.States.{State, is_open}
 use Rattle.state.specs.declared.record.Record.{Record}
@@ -37,13 +33,9 @@ Spent s (Heard from n) = ⊥
 abbrev pub Seated : State → Piece → Type 0
 Seated s p = (p.seat.0 < 400) × (is_open s p.train ≡ true)
 
--- and a party of such pieces
-abbrev pub SeatedAll : State → Party → Type 0
-SeatedAll s p = AllByRecursion (λ (x : Seat). x.0 < 400) (seats_of p) × (is_open s p.train ≡ true)
-
--- a ticket that stands, for such a party
+-- a ticket that stands, for such a piece
 abbrev pub Standing : State → Sale → Type 0
-Standing s (Stands p) = SeatedAll s p
+Standing s (Stands p) = Seated s p
 Standing s Returned = ⊥
 
 -- the tickets at the front that do not stand any more are dropped

@@ -1,5 +1,4 @@
 // What a station writes down, and what its state is made of.
-use choosing::party::Party;
 use giving::ids::{Number, StationId, Ticket};
 use pieces::names::Train;
 use pieces::piece::Piece;
@@ -9,7 +8,7 @@ use pieces::piece::Piece;
 pub enum Record {
     Opened(Train),
     Closed(Train),
-    Sold(Ticket, Party),
+    Sold(Ticket, Piece),
     Undone(Ticket),
     // given to a station, under a number
     Given(StationId, Number, Piece),
@@ -29,6 +28,6 @@ pub enum Slot {
 // A ticket: it stands, or it was undone, or its train was closed.
 #[derive(Clone, Copy, Drop)]
 pub enum Sale {
-    Stands(Party),
+    Stands(Piece),
     Returned,
 }

@@ -66,9 +66,9 @@ impl World {
         }
         match request {
             Request::Close(train) => Some(self.perform(place, Input::Close(train))),
-            Request::Sell(demand) => Some(self.perform(place, Input::Sell(demand))),
+            Request::Sell(piece) => Some(self.perform(place, Input::Sell(piece))),
             Request::Undo(ticket) => Some(self.perform(place, Input::Undo(ticket))),
-            Request::Give(to, demand) => Some(self.perform(place, Input::Give(to, demand))),
+            Request::Give(to, piece) => Some(self.perform(place, Input::Give(to, piece))),
         }
     }
 

@@ -1,34 +1,34 @@
 // Where a stretch of a seat is: what the stations of a world hold, what they have sold, and what is on its way between them.
-ghost use Rattle.std.specs.Prelude.{◌≡◌, ◌<◌, ◌++◌, drop, replicate, IfOk, OnOk};
-ghost use Rattle.choosing.specs.Parties.{pieces_of};
+ghost use Rattle.std.specs.Prelude.{◌≡◌, ◌<◌, ◌≤◌, ◌++◌, drop, replicate, IfOk, OnOk};
 ghost use Rattle.giving.specs.Channels.{line};
 ghost use Rattle.giving.specs.Posts.{chans};
 ghost use Rattle.network.specs.Places.{count_in, standing, under_way};
-ghost use Rattle.network.specs.declared.place.Place.TheVariants.{Sold};
 ghost use Rattle.rehearsal.specs.Found.{ways_from, spots_of, places_of, OneIn};
 ghost use Rattle.rehearsal.specs.Seen.{count, state_of};
 ghost use Rattle.state.specs.Views.{view};
 
 use super::World;
-use choosing::party::Party;
 use giving::channels::Channels;
 use giving::ids::StationId;
 use network::place::Place;
 use pieces::names::{Seat, Stop, Train};
-use pieces::piece::Piece;
 use state::record::Sale;
 use state::station::Station;
 use std::alloc::{AllocError, Global};
 
-// How many pieces of a party have the stretch.
-fn count_party(party: &Party, train: Train, seat: Seat, stop: Stop) -> usize
-    ensures { result ≡ count_in train seat.0 stop.0 (pieces_of party.now) }
+// A station's name is a byte, so no more stations have one.
+const NAMES: usize = 256;
+
+// How many tickets of a station stand and have the stretch.
+fn count_sold(station: &Station, train: Train, seat: Seat, stop: Stop) -> usize
+    ensures { result ≡ count_in train seat.0 stop.0 (standing (view station.now).tickets) }
 {
     let mut n = 0;
-    for taken in party.seats().iter() {
-        let piece = Piece::new(party.train, *taken, party.trip);
-        if piece.has(train, seat, stop) {
-            n += 1;
+    for k in 0..station.standing_len() {
+        if let Sale::Stands(piece) = station.standing_at(k) {
+            if piece.has(train, seat, stop) {
+                n += 1;
+            }
         }
     }
     n
@@ -66,26 +66,6 @@ fn push_many(found: &mut Vec<Place>, place: Place, count: usize) -> Result<(), A
     Ok(())
 }
 
-// The stretch in each ticket of a station that stands.
-fn push_sold(
-    found: &mut Vec<Place>,
-    station: &Station,
-    who: StationId,
-    train: Train,
-    seat: Seat,
-    stop: Stop,
-) -> Result<(), AllocError>
-    ensures { OnOk result (found.new.items ≡ found.old.items ++ replicate (count_in train seat.0 stop.0 (standing (view station.now).tickets)) (Sold who)) }
-{
-    for k in 0..station.standing_len() {
-        if let Sale::Stands(party) = station.standing_at(k) {
-            let count = count_party(&party, train, seat, stop);
-            push_many(found, Place::Sold(who), count)?;
-        }
-    }
-    Ok(())
-}
-
 impl World {
     // How many pieces on their way between two stations have the stretch: what waits at the one, without what the other has
     // taken and the one has not heard of.
@@ -119,11 +99,10 @@ impl World {
         stop: Stop,
     ) -> Result<(), AllocError>
         requires { who.0 < count self.now }
-        ensures { OnOk result (found.new.items ≡ found.old.items ++ ways_from self.now train seat.0 stop.0 who.0) }
+        ensures { OnOk result (count self.now ≤ 256 → found.new.items ≡ found.old.items ++ ways_from self.now train seat.0 stop.0 who.0) }
     {
-        let stations = self.posts.len() as u8;
-        for k in 0..stations {
-            let to = StationId(k);
+        for k in 0..self.posts.len().min(NAMES) {
+            let to = StationId(k as u8);
             push_many(
                 found,
                 Place::Way(who, to),
@@ -143,13 +122,17 @@ impl World {
         stop: Stop,
     ) -> Result<(), AllocError>
         requires { who.0 < count self.now }
-        ensures { OnOk result ((seat.0 < 400 → found.new.items ≡ found.old.items ++ spots_of self.now train seat.0 stop.0 who.0)) }
+        ensures { OnOk result (seat.0 < 400 → count self.now ≤ 256 → found.new.items ≡ found.old.items ++ spots_of self.now train seat.0 stop.0 who.0) }
     {
         let station = &self.posts[who.0 as usize].station;
         if station.holds_stretch(train, seat, stop) {
             found.push(Place::Held(who))?;
         }
-        push_sold(found, station, who, train, seat, stop)?;
+        push_many(
+            found,
+            Place::Sold(who),
+            count_sold(station, train, seat, stop),
+        )?;
         self.ways(found, who, train, seat, stop)
     }
 
@@ -165,9 +148,8 @@ impl World {
         ensures one { IfOk result (λ v. OneIn self.now train seat.0 stop.0 v.items) }
     {
         let mut found = Vec::new(heap);
-        let stations = self.posts.len() as u8;
-        for k in 0..stations {
-            self.spots(&mut found, StationId(k), train, seat, stop)?;
+        for k in 0..self.posts.len().min(NAMES) {
+            self.spots(&mut found, StationId(k as u8), train, seat, stop)?;
         }
         Ok(found)
     }

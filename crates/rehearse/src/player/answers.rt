@@ -1,7 +1,6 @@
 // What is answered to a line of the script.
 use super::Player;
-use choosing::party::Party;
-use giving::ids::{StationId, Ticket};
+use giving::ids::StationId;
 use giving::message::Body;
 use giving::refusal::Refusal;
 use ledger::input::Outcome;
@@ -14,51 +13,34 @@ use std::alloc::{AllocError, Global};
 impl Player {
     // What a record is as an answer.
     fn done(&self, heap: Global, who: StationId, entry: Record) -> Result<String, AllocError> {
+        let who = who.0;
         match entry {
             Record::Opened(train) => {
-                let who = who.0;
                 let t = train.0;
                 format!(in heap; "{who} opened {t}\n")
             }
             Record::Closed(train) => {
-                let who = who.0;
                 let t = train.0;
                 format!(in heap; "{who} closed {t}\n")
             }
-            Record::Sold(ticket, party) => self.ticket(heap, who, ticket, party),
+            Record::Sold(ticket, piece) => {
+                let k = ticket.0;
+                let t = piece.train.0;
+                let s = piece.seat.0;
+                let a = piece.from.0;
+                let b = piece.to.0;
+                format!(in heap; "{who} ticket {k} {t} {s}:{a}-{b}\n")
+            }
             Record::Undone(ticket) => {
-                let who = who.0;
                 let k = ticket.0;
                 format!(in heap; "{who} undone {k}\n")
             }
-            Record::Given(_, _, _) | Record::Taken(_, _, _) | Record::Heard(_, _) => {
-                let who = who.0;
-                format!(in heap; "{who} taken\n")
+            Record::Given(to, _, _) => {
+                let j = to.0;
+                format!(in heap; "{who} gave {j} 1\n")
             }
+            Record::Taken(_, _, _) | Record::Heard(_, _) => format!(in heap; "{who} taken\n"),
         }
-    }
-
-    // A ticket: its number, its train, and a piece for each of the people.
-    fn ticket(
-        &self,
-        heap: Global,
-        who: StationId,
-        ticket: Ticket,
-        party: Party,
-    ) -> Result<String, AllocError> {
-        let who = who.0;
-        let k = ticket.0;
-        let t = party.train.0;
-        let a = party.trip.from.0;
-        let b = party.trip.to.0;
-        let mut text = format!(in heap; "{who} ticket {k} {t}")?;
-        for seat in party.seats() {
-            let s = seat.0;
-            let piece = format!(in heap; " {s}:{a}-{b}")?;
-            text.push_str(piece.as_str())?;
-        }
-        text.push_str("\n")?;
-        Ok(text)
     }
 
     // What a call came to.
@@ -73,12 +55,6 @@ impl Player {
         };
         match outcome {
             Outcome::Done(entry) => self.done(heap, who, entry),
-            Outcome::Gave(to, _, party) => {
-                let who = who.0;
-                let j = to.0;
-                let count = party.len();
-                format!(in heap; "{who} gave {j} {count}\n")
-            }
             Outcome::Nothing => {
                 let who = who.0;
                 format!(in heap; "{who} passed\n")
@@ -86,6 +62,21 @@ impl Player {
             Outcome::Passed(refusal) => refused(heap, who, "passed", refusal),
             Outcome::Refused(refusal) => refused(heap, who, "no", refusal),
         }
+    }
+
+    // What a give came to: it may have given nothing.
+    pub fn given(
+        &self,
+        heap: Global,
+        who: StationId,
+        to: u32,
+        outcome: Option<Outcome>,
+    ) -> Result<String, AllocError> {
+        if let Some(Outcome::Nothing) = outcome {
+            let who = who.0;
+            return format!(in heap; "{who} gave {to} 0\n");
+        }
+        self.answer(heap, who, outcome)
     }
 
     // A train is opened, and all stations have its row.

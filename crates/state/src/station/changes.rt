@@ -3,8 +3,8 @@ ghost use Rattle.std.specs.Prelude.{◌≡◌, ◌+◌, ◌-◌, ◌<◌, true, 
 ghost use Rattle.giving.specs.Calls.{givable};
 ghost use Rattle.giving.specs.Channels.{gave, heard_to, line, news, other, took};
 ghost use Rattle.giving.specs.declared.refusal.Refusal.TheVariants.{Memory};
-ghost use Rattle.state.specs.Changes.{apply, closing, fits, forgotten, opened, put_all, put_back, received, returned, taken_all, taken_out, with_line, with_tickets};
-ghost use Rattle.state.specs.Ready.{Ready, Seated, SeatedAll, Spent, Standing, trimming};
+ghost use Rattle.state.specs.Changes.{apply, closing, fits, forgotten, opened, put_back, received, returned, taken_out, with_line, with_tickets};
+ghost use Rattle.state.specs.Ready.{Ready, Seated, Spent, Standing, trimming};
 ghost use Rattle.state.specs.States.{is_open, known, openable, ticket_of, tickets_left};
 ghost use Rattle.state.specs.Views.{view};
 ghost use Rattle.state.specs.declared.record.Sale.TheVariants.{Stands, Returned};
@@ -14,10 +14,9 @@ ghost use Rattle.timetable.specs.Tables.{table as rows_of};
 use super::Station;
 use super::sales::{forget_all, stale_count};
 use crate::record::{Record, Sale, Slot};
-use choosing::party::Party;
 use giving::ids::{Number, StationId, Ticket};
 use giving::refusal::Refusal;
-use pieces::memory::{open_at, put_in_all_at, put_in_at, take_out_all_at, take_out_at};
+use pieces::memory::{open_at, put_in_at, take_out_at};
 use pieces::names::Train;
 use pieces::piece::Piece;
 use pieces::seats::full;
@@ -40,24 +39,6 @@ impl Station {
     {
         let place = self.place(Slot::Open(piece.train));
         put_in_at(&mut self.words, place, piece.seat, piece.trip());
-    }
-
-    // Takes the pieces of a party out of what is held.
-    fn take_out_all(&mut self, party: Party)
-        requires { SeatedAll (view self.old) party }
-        ensures { view self.new ≡ taken_all (view self.old) party }
-    {
-        let place = self.place(Slot::Open(party.train));
-        take_out_all_at(&mut self.words, place, party.seats(), party.trip);
-    }
-
-    // Puts the pieces of a party back into what is held.
-    fn put_back_all(&mut self, party: Party)
-        requires { SeatedAll (view self.old) party }
-        ensures { view self.new ≡ put_all (view self.old) party }
-    {
-        let place = self.place(Slot::Open(party.train));
-        put_in_all_at(&mut self.words, place, party.seats(), party.trip);
     }
 
     // Forgets the tickets of a train.
@@ -120,15 +101,15 @@ impl Station {
         self.trim();
     }
 
-    // Sells the pieces of a party under one ticket.
-    fn sell(&mut self, party: Party)
-        requires seated { SeatedAll (view self.old) party }
+    // Sells a piece that is held.
+    fn sell(&mut self, piece: Piece)
+        requires seated { Seated (view self.old) piece }
         requires left { tickets_left (view self.old) ≡ true }
         requires ready { vec_len self.old.tickets < vec_capacity self.old.tickets }
-        ensures { view self.new ≡ with_tickets (taken_all (view self.old) party) ((view self.old).tickets ++ Stands party ∷ []) }
+        ensures { view self.new ≡ with_tickets (taken_out (view self.old) piece) ((view self.old).tickets ++ Stands piece ∷ []) }
     {
-        self.tickets.push_reserved(Sale::Stands(party));
-        self.take_out_all(party);
+        self.tickets.push_reserved(Sale::Stands(piece));
+        self.take_out(piece);
     }
 
     // Undoes a ticket that stands.
@@ -140,7 +121,7 @@ impl Station {
             return;
         };
         self.tickets[(n.0 - 1 - self.dropped) as usize] = Sale::Returned;
-        self.put_back_all(sold);
+        self.put_back(sold);
     }
 
     // Gives a piece that is held to another station.
@@ -210,7 +191,7 @@ impl Station {
         match entry {
             Record::Opened(train) => self.open_train(table, train),
             Record::Closed(train) => self.close_train(train),
-            Record::Sold(_, party) => self.sell(party),
+            Record::Sold(_, piece) => self.sell(piece),
             Record::Undone(ticket) => self.undo(ticket),
             Record::Given(to, _, piece) => self.give(to, piece),
             Record::Taken(from, number, piece) => self.take(table, from, number, piece),

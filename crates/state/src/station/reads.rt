@@ -1,8 +1,7 @@
 // What a station can tell.
-ghost use Rattle.std.specs.Prelude.{◌≡◌, ◌≤◌, true, ◌&&◌, length, IfOk, nat_lt, slice_index_or};
-ghost use Rattle.choosing.specs.Choice.{group};
-ghost use Rattle.choosing.specs.Parties.{party_of};
+ghost use Rattle.std.specs.Prelude.{◌≡◌, ◌≤◌, true, ◌&&◌, length, IfOk, MatchOption, nat_lt, slice_index_or};
 ghost use Rattle.pieces.specs.Memory.{word_at};
+ghost use Rattle.pieces.specs.Search.{NoneCovers, Lowest};
 ghost use Rattle.pieces.specs.Stretches.{holds};
 ghost use Rattle.state.specs.States.{begun, same, place_of, place, is_open, was_closed, known, openable, holds_piece, sold, tickets_left, ticket_of};
 ghost use Rattle.state.specs.Views.{view};
@@ -10,11 +9,9 @@ ghost use Rattle.state.specs.declared.record.Sale.TheVariants.{Returned};
 
 use super::Station;
 use crate::record::{Sale, Slot};
-use choosing::choice::choose_all_at;
-use choosing::party::Party;
 use giving::channels::Channels;
 use giving::ids::{StationId, Ticket};
-use pieces::memory::{PLACES, SEATS, covers_at, holds_at};
+use pieces::memory::{PLACES, SEATS, covers_at, holds_at, lowest_at};
 use pieces::names::{Seat, Stop, Train};
 use pieces::piece::Piece;
 use pieces::trip::Trip;
@@ -143,13 +140,17 @@ impl Station {
         holds_at(&self.words, place, seat, stop)
     }
 
-    // The seats for so many people on an open train with so many seats, or for as many as there are, by the rule of choice.
-    pub fn choose(&self, train: Train, seats: u16, trip: Trip, people: u8) -> Party
-        requires { (is_open (view self.now) train ≡ true) × ((seats ≤ 400) × (people ≤ 8)) }
-        ensures { result ≡ party_of train trip (group people (word_at (view self.now).words (place (view self.now) train)) seats trip.from.0 trip.to.0) }
+    // The lowest of the first `count` seats that covers a trip; a train that is not open has none.
+    pub fn lowest(&self, train: Train, count: u16, trip: Trip) -> Option<Seat>
+        requires { count ≤ 400 }
+        ensures { MatchOption result (is_open (view self.now) train ≡ true → NoneCovers (word_at (view self.now).words (place (view self.now) train)) count trip.from.0 trip.to.0)
+            (λ seat. (is_open (view self.now) train ≡ true) × Lowest (word_at (view self.now).words (place (view self.now) train)) count trip.from.0 trip.to.0 seat.0) }
     {
         let place = self.place(Slot::Open(train));
-        choose_all_at(&self.words, place, seats, train, trip, people)
+        if place >= PLACES {
+            return None;
+        }
+        lowest_at(&self.words, place, count, trip)
     }
 
     // How many tickets were ever sold.

@@ -11,8 +11,8 @@ fn forget_one(sale: Sale, train: Train) -> Sale
 {
     match sale {
         Sale::Returned => Sale::Returned,
-        Sale::Stands(party) => {
-            if train.0 == party.train.0 {
+        Sale::Stands(piece) => {
+            if train.0 == piece.train.0 {
                 Sale::Returned
             } else {
                 sale

@@ -1,4 +1,4 @@
-use Rattle.std.proofs.Common.{◌≡◌, ◌<◌, cond, [], ◌∷◌, ◌++◌, length, replicate, vec_items, sym, ap, ◌∙◌, arith}
+use Rattle.std.proofs.Common.{◌≡◌, ℕ, ◌<◌, cond, [], ◌∷◌, ◌++◌, length, replicate, vec_items, sym, ap, ◌∙◌, arith}
 use Rattle.network.specs.Places.{holding, count_in, standing}
 use Rattle.network.specs.declared.place.Place.TheVariants.{Held, Sold}
 use Rattle.rehearsal.proofs.Finding.{held_at, found_then, found_else, found_three}
@@ -24,7 +24,7 @@ returns c =
       | then-holds_stretch+in_ok-push v ↦ found_then _ xs _ _ (sym (held l) ∙ v.if-holds_stretch.true) (ap (λ x. vec_items x) v.found-is ∙ v.in_ok-push.ensures.items)
       | else-holds_stretch v ↦ found_else _ xs _ _ (sym (held l) ∙ v.if-holds_stretch.false) (ap (λ x. vec_items x) v.found-is)
     ] in
-    let second : vec_items c.push_sold.new.found ≡ vec_items c.if-holds_stretch.found ++ replicate (count_in t s u (standing (state_of w i).tickets)) (Sold c.args.who) =
-    c.in_ok-push_sold.ensures
-    ∙ ap (λ x. vec_items c.if-holds_stretch.found ++ replicate (count_in t s u (standing x.tickets)) (Sold c.args.who)) (sym (here_is ps i c.index.result.now b c.index.ensures)) in
-    IfOk-weaker c.ways.result _ _ (λ _ h l. found_three xs _ _ _ _ _ _ (first l) second h) c.ways.ensures
+    let second : vec_items c.push_many.new.found ≡ vec_items c.if-holds_stretch.found ++ replicate (count_in t s u (standing (state_of w i).tickets)) (Sold c.args.who) =
+    c.in_ok-push_many.ensures
+    ∙ ap (λ (n : ℕ). vec_items c.if-holds_stretch.found ++ replicate n (Sold c.args.who)) (c.count_sold.ensures ∙ ap (λ x. count_in t s u (standing x.tickets)) (sym (here_is ps i c.index.result.now b c.index.ensures))) in
+    IfOk-weaker c.ways.result _ _ (λ _ h l n. found_three xs _ _ _ _ _ _ (first l) second (h n)) c.ways.ensures

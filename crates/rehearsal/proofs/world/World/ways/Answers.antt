@@ -15,7 +15,7 @@ loop-k-preserved c =
     (c.in_ok-push_many.ensures ∙ ap (λ (n : ℕ). vec_items c.loop-k.found ++ replicate n (Way c.args.who (record { 0 = k }))) c.count_way.ensures)
 
 pub returns : goal.returns
-returns c =
+returns c h =
     c.loop-k.invariant
     ∙ ap (λ (n : ℕ). vec_items c.args.found.now ++ gather n (way_to c.args.self.now c.args.train c.args.seat.0 c.args.stop.0 c.args.who.0))
-    (omega (arith, c.args.self.now.few, c.loop-k-test.false, c.loop-k.auto.k-end, c.len-stations.ensures))
+    (omega (arith, h, c.loop-k-test.false, c.loop-k.auto.k-end, c.min-k-end.ensures, c.len.ensures))

@@ -1,5 +1,0 @@
-use Rattle.network.proofs.Undoing.{undoes}
-use Rattle.network.proofs.undoes_stands.Goals as goal
-
-pub returns : goal.returns
-returns c = undoes
