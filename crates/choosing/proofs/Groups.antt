@@ -1,45 +1,33 @@
 -- The seats of several people. Assumes nothing.
-use Rattle.std.proofs.Common.{◌≡◌, ℕ, zero, suc, ◌+◌, ◌-◌, ◌<◌, ◌≤◌, min, true, cond, ◌&&◌, eqb, ltb, List, [], ◌∷◌, ◌++◌, length, get_or, take, replicate, Some, None, Option, sym, refl, ap, ◌∙◌, subst, ⊎_elim, add-one, arith}
+use Rattle.std.proofs.Common.{◌≡◌, ℕ, zero, suc, ◌+◌, ◌-◌, ◌<◌, ◌≤◌, min, true, false, cond, eqb, ltb, List, [], ◌∷◌, ◌++◌, length, get_or, take, Some, None, Option, sym, refl, ap, ◌∙◌, subst, ⊎_elim, add-one, arith}
 use Rattle.choosing.specs.Choice.{Chosen, Choice, NoneCovers, chosen, drawn, drawn_all, follow, free, group}
 use Rattle.choosing.specs.Laws.{Choices}
-use Rattle.choosing.specs.Parties.{below, party_of, seats_of, unused}
-use Rattle.choosing.proofs.Rule.{choice_is, choice_one, chosen_cong}
+use Rattle.choosing.specs.Parties.{below, unused}
+use Rattle.choosing.proofs.Rule.{choice_is, choice_one, chosen_cong, uncovered}
 use Rattle.choosing.proofs.Taken.{drawn_here, drawn_other}
-use Rattle.choosing.proofs.Undo.{covers_inside, undone}
+use Rattle.choosing.proofs.Undo.{covers_inside, drawn_without}
 use Rattle.pieces.proofs.Bitwise.{covered_decides, less_uncovered}
-use Rattle.pieces.proofs.Places.{word_set, word_set_other}
-use Rattle.pieces.specs.Memory.{covered_all, together_all, without, without_all, word_at}
+use Rattle.pieces.specs.Memory.{covered_all, without, word_at}
 use Rattle.pieces.specs.Stretches.{Covers, covered, less}
 use Rattle.pieces.specs.declared.names.Seat.{Seat}
-use Rattle.pieces.specs.declared.names.Train.{Train}
-use Rattle.pieces.specs.declared.trip.Trip.{Trip}
-use Rattle.std.proofs.lemmas.List.{append-nil, take_at}
-use Rattle.std.proofs.lemmas.Bool.{and_from, and_parts, cases_Bool, cases_eq, cases_lt, cond-true, cond-false, lt-ltb, ltb-true}
+use Rattle.std.proofs.lemmas.List.{append-nil}
+use Rattle.std.proofs.lemmas.Bool.{and_parts, cases_eq, lt-ltb, ltb-true}
 use Rattle.std.specs.List.{AllByRecursion}
-
--- ---- one seat
-
-pub chosen_is : (f : ℕ → ℕ) (n a b : ℕ) → Chosen f n a b (chosen f n a b)
-chosen_is f n a b = choice_is f a b n
-
-pub chosen_one : (f : ℕ → ℕ) (n a b : ℕ) (r : Option Seat) → Chosen f n a b r → r ≡ chosen f n a b
-chosen_one f n a b r h = choice_one f a b n r (chosen f n a b) h (choice_is f a b n)
 
 -- ---- a group, by its first seat
 
-follow_ind : (P : List Seat → Type 0) (r : Option Seat) (F : Seat → List Seat) → (r ≡ None → P []) → ((s : Seat) → r ≡ Some s → P (F s)) → P (follow r F)
-follow_ind P None F h k = h refl
-follow_ind P (Some s) F h k = k s refl
+by_first : (P : List Seat → Type 0) (m : ℕ) (f : ℕ → ℕ) (n a b : ℕ) → (NoneCovers f n a b → P [])
+    → ((s : Seat) → Choice f n a b s.0 → P (s ∷ group m (drawn f a b s.0) n a b)) → P (group (suc m) f n a b)
+unfolding group
+by_first P m f n a b none some = go (chosen f n a b) (choice_is f a b n)
+  where
+    go : (r : Option Seat) → Chosen f n a b r → P (follow r (λ s. s ∷ group m (drawn f a b s.0) n a b))
+    go None h = none h
+    go (Some s) h = some s h
 
 follow_cong : (r : Option Seat) (F G : Seat → List Seat) → ((s : Seat) → F s ≡ G s) → follow r F ≡ follow r G
 follow_cong None F G h = refl
 follow_cong (Some s) F G h = h s
-
-none_is : (f : ℕ → ℕ) (n a b : ℕ) → chosen f n a b ≡ None → NoneCovers f n a b
-none_is f n a b e = subst (λ r. Chosen f n a b r) e (choice_is f a b n)
-
-some_is : (f : ℕ → ℕ) (n a b : ℕ) (s : Seat) → chosen f n a b ≡ Some s → Choice f n a b s.0
-some_is f n a b s e = subst (λ r. Chosen f n a b r) e (choice_is f a b n)
 
 pub group_cong : (m : ℕ) (f g : ℕ → ℕ) (n a b : ℕ) → ((k : ℕ) → k < n → f k ≡ g k) → group m f n a b ≡ group m g n a b
 unfolding group
@@ -52,36 +40,25 @@ group_cong (suc m) f g n a b h =
 pub group_most : (m : ℕ) (f : ℕ → ℕ) (n a b : ℕ) → length (group m f n a b) ≤ m
 unfolding group
 group_most zero f n a b = omega arith
-group_most (suc m) f n a b =
-    follow_ind (λ ss. length ss ≤ suc m) (chosen f n a b) (λ s. s ∷ group m (drawn f a b s.0) n a b) (λ _. omega arith)
-    (λ s e. omega (arith, group_most m (drawn f a b s.0) n a b))
+group_most (suc m) f n a b = by_first (λ ss. length ss ≤ suc m) m f n a b (λ _. omega arith) (λ s _. omega (arith, group_most m (drawn f a b s.0) n a b))
 
 pub group_below : (m : ℕ) (f : ℕ → ℕ) (n a b : ℕ) → below n (group m f n a b) ≡ true
 unfolding group
 group_below zero f n a b = refl
 group_below (suc m) f n a b =
-    follow_ind (λ ss. below n ss ≡ true) (chosen f n a b) (λ s. s ∷ group m (drawn f a b s.0) n a b) (λ _. refl)
-    (λ s e. and_from (ltb s.0 n) (below n (group m (drawn f a b s.0) n a b)) (lt-ltb s.0 n (some_is f n a b s e).there) (group_below m (drawn f a b s.0) n a b))
+    by_first (λ ss. below n ss ≡ true) m f n a b (λ _. refl) (λ s c. rw (lt-ltb s.0 n c.there) (group_below m (drawn f a b s.0) n a b))
 
 -- ---- how many there are
 
 free_cong : (f g : ℕ → ℕ) (n a b : ℕ) → ((k : ℕ) → k < n → f k ≡ g k) → free f n a b ≡ free g n a b
 unfolding free
 free_cong f g zero a b h = refl
-free_cong f g (suc n) a b h =
-    let e : ◌≡◌ {A = ℕ} (cond (covered (f n) a b) 1 0) (cond (covered (g n) a b) 1 0) = ap (λ (w : ℕ). cond (covered w a b) 1 0) (h n (omega arith)) in
-    omega (arith, e, free_cong f g n a b (λ k l. h k (omega arith)))
-
-one_free : (w a b : ℕ) → Covers w a b → ◌≡◌ {A = ℕ} (cond (covered w a b) 1 0) 1
-one_free w a b h = cond-true (covered w a b) 1 0 ((covered_decides w a b).1 h)
-
-one_taken : (w a b : ℕ) → (Covers w a b → ⊥) → ◌≡◌ {A = ℕ} (cond (covered w a b) 1 0) 0
-one_taken w a b h = cond-false (covered w a b) 1 0 (⊎_elim (λ e. absurd (h ((covered_decides w a b).0 e))) (λ e. e) (cases_Bool (covered w a b)))
+free_cong f g (suc n) a b h = rw (h n (omega arith), free_cong f g n a b (λ k l. h k (omega arith)))
 
 free_none : (f : ℕ → ℕ) (n a b : ℕ) → NoneCovers f n a b → free f n a b ≡ 0
 unfolding free
 free_none f zero a b h = refl
-free_none f (suc n) a b h = omega (arith, one_taken (f n) a b (h n (omega arith)), free_none f n a b (λ s l. h s (omega arith)))
+free_none f (suc n) a b h = rw (uncovered (f n) a b (h n (omega arith))) (omega (arith, free_none f n a b (λ s l. h s (omega arith))))
 
 free_drawn : (f : ℕ → ℕ) (n a b s : ℕ) → a < b → s < n → Covers (f s) a b → free (drawn f a b s) n a b + 1 ≡ free f n a b
 unfolding free
@@ -89,21 +66,19 @@ free_drawn f zero a b s h l c = absurd (omega arith)
 free_drawn f (suc n) a b s h l c =
     ⊎_elim
     (λ e.
-    let now : ◌≡◌ {A = ℕ} (cond (covered (drawn f a b s n) a b) 1 0) 0 = ap (λ (w : ℕ). cond (covered w a b) 1 0) (drawn_here f a b s n e) ∙ one_taken (less (f n) a b) a b (less_uncovered (f n) a b h) in
-    omega (arith, now, one_free (f n) a b (subst (λ (x : ℕ). Covers (f x) a b) (sym e) c), free_cong (drawn f a b s) f n a b (λ k u. drawn_other f a b s k (λ d. omega arith))))
-    (λ d.
-    let now : ◌≡◌ {A = ℕ} (cond (covered (drawn f a b s n) a b) 1 0) (cond (covered (f n) a b) 1 0) = ap (λ (w : ℕ). cond (covered w a b) 1 0) (drawn_other f a b s n d) in
-    omega (arith, now, free_drawn f n a b s h (⊎_elim (λ u. u) (λ u. absurd (d (omega arith))) (cases_lt s n)) c))
+    let was : covered (f n) a b ≡ true = (covered_decides (f n) a b).1 (subst (λ (x : ℕ). Covers (f x) a b) (sym e) c) in
+    let now : covered (drawn f a b s n) a b ≡ false = ap (λ (w : ℕ). covered w a b) (drawn_here f a b s n e) ∙ uncovered (less (f n) a b) a b (less_uncovered (f n) a b h) in
+    rw (was, now) (omega (arith, free_cong (drawn f a b s) f n a b (λ k u. drawn_other f a b s k (λ d. omega arith)))))
+    (λ d. rw (drawn_other f a b s n d) (omega (arith, free_drawn f n a b s h (omega arith) c)))
     (cases_eq n s)
 
 pub group_length : (m : ℕ) (f : ℕ → ℕ) (n a b : ℕ) → a < b → length (group m f n a b) ≡ min m (free f n a b)
 unfolding group
 group_length zero f n a b h = omega arith
 group_length (suc m) f n a b h =
-    follow_ind (λ ss. length ss ≡ min (suc m) (free f n a b)) (chosen f n a b) (λ s. s ∷ group m (drawn f a b s.0) n a b)
-    (λ e. omega (arith, free_none f n a b (none_is f n a b e)))
-    (λ s e. let c = some_is f n a b s e in
-    omega (arith, group_length m (drawn f a b s.0) n a b h, free_drawn f n a b s.0 h c.there c.covers))
+    by_first (λ ss. length ss ≡ min (suc m) (free f n a b)) m f n a b
+    (λ e. omega (arith, free_none f n a b e))
+    (λ s c. omega (arith, group_length m (drawn f a b s.0) n a b h, free_drawn f n a b s.0 h c.there c.covers))
 
 -- each seat is the choice of what those before left
 each_chosen : (m : ℕ) (f : ℕ → ℕ) (n a b k : ℕ) → k < length (group m f n a b)
@@ -111,18 +86,18 @@ each_chosen : (m : ℕ) (f : ℕ → ℕ) (n a b k : ℕ) → k < length (group 
 unfolding group
 each_chosen zero f n a b k = λ l. absurd (omega arith)
 each_chosen (suc m) f n a b k =
-    follow_ind (λ ss. k < length ss → Chosen (drawn_all f a b (take k ss)) n a b (Some (get_or ss k unused))) (chosen f n a b) (λ s. s ∷ group m (drawn f a b s.0) n a b)
-    (λ e l. absurd (omega arith))
-    (λ s e. by_place f n a b s (group m (drawn f a b s.0) n a b) (some_is f n a b s e) (λ j l. each_chosen m (drawn f a b s.0) n a b j l) k)
+    by_first (λ ss. k < length ss → Chosen (drawn_all f a b (take k ss)) n a b (Some (get_or ss k unused))) m f n a b
+    (λ _ l. absurd (omega arith))
+    (λ s c. by_place s (group m (drawn f a b s.0) n a b) c (each_chosen m (drawn f a b s.0) n a b) k)
   where
-    by_place : (f : ℕ → ℕ) (n a b : ℕ) (s : Seat) (ss : List Seat) → Choice f n a b s.0
+    by_place : (s : Seat) (ss : List Seat) → Choice f n a b s.0
         → ((j : ℕ) → j < length ss → Chosen (drawn_all (drawn f a b s.0) a b (take j ss)) n a b (Some (get_or ss j unused)))
         → (k : ℕ) → k < length (s ∷ ss) → Chosen (drawn_all f a b (take k (s ∷ ss))) n a b (Some (get_or (s ∷ ss) k unused))
-    by_place f n a b s ss c h zero l = c
-    by_place f n a b s ss c h (suc k) l = h k (omega arith)
+    by_place s ss c h zero l = c
+    by_place s ss c h (suc k) l = h k (omega arith)
 
 pub choices : Choices
-choices = (λ f n a b. (chosen_is f n a b, λ r h. chosen_one f n a b r h), λ m f n a b h. (group_length m f n a b h, λ k l. each_chosen m f n a b k l))
+choices = (λ f n a b. (choice_is f a b n, λ r h. choice_one f a b n r (chosen f n a b) h (choice_is f a b n)), λ m f n a b h. (group_length m f n a b h, λ k l. each_chosen m f n a b k l))
 
 -- ---- one more
 
@@ -145,18 +120,14 @@ group_step (suc m) f n a b = go (chosen f n a b) refl (λ s. group_step m (drawn
 
 -- where there is a seat for one more
 pub group_more : (m : ℕ) (f : ℕ → ℕ) (n a b : ℕ) (ss : List Seat) (s : Seat) → ss ≡ group m f n a b → Some s ≡ chosen (drawn_all f a b ss) n a b → group (m + 1) f n a b ≡ ss ++ s ∷ []
-group_more m f n a b ss s g e =
-    ap (λ (i : ℕ). group i f n a b) (add-one m) ∙ group_step m f n a b
-    ∙ ap (λ x. x ++ next f n a b x) (sym g) ∙ ap (λ r. ss ++ follow r (λ t. t ∷ [])) (sym e)
+group_more m f n a b ss s g e = rw (add-one m, group_step m f n a b, ← g, ← e)
 
 -- where there is none, nobody more has one
 group_stays : (d m : ℕ) (f : ℕ → ℕ) (n a b : ℕ) → None ≡ chosen (drawn_all f a b (group m f n a b)) n a b → group (d + m) f n a b ≡ group m f n a b
 group_stays zero m f n a b e = ap (λ (i : ℕ). group i f n a b) (omega arith)
 group_stays (suc d) m f n a b e =
     let i : suc d + m ≡ suc (d + m) = omega arith in
-    ap (λ (i : ℕ). group i f n a b) i ∙ group_step (d + m) f n a b
-    ∙ ap (λ x. x ++ next f n a b x) (group_stays d m f n a b e)
-    ∙ ap (λ r. group m f n a b ++ follow r (λ t. t ∷ [])) (sym e) ∙ append-nil (group m f n a b)
+    rw (i, group_step (d + m) f n a b, group_stays d m f n a b e, ← e) (append-nil (group m f n a b))
 
 pub group_ends : (m k : ℕ) (f : ℕ → ℕ) (n a b : ℕ) (ss : List Seat) → m ≤ k → ss ≡ group m f n a b → None ≡ chosen (drawn_all f a b ss) n a b → ss ≡ group k f n a b
 group_ends m k f n a b ss l g e =
@@ -169,29 +140,13 @@ pub group_covered : (ws : List ℕ) (k m n a b : ℕ) → n ≤ 400 → a < b �
 unfolding group
 group_covered ws k zero n a b h l = refl
 group_covered ws k (suc m) n a b h l =
-    follow_ind (λ ss. covered_all ws k ss a b ≡ true) (chosen (word_at ws k) n a b) (λ s. s ∷ group m (drawn (word_at ws k) a b s.0) n a b) (λ _. refl)
-    (λ s e.
-    let c = some_is (word_at ws k) n a b s e in
-    let low : s.0 < 400 = omega (arith, c.there) in
-    let x = less (word_at ws k s.0) a b in
+    by_first (λ ss. covered_all ws k ss a b ≡ true) m (word_at ws k) n a b (λ _. refl)
+    (λ s c.
     let vs = without ws k s.0 a b in
-    and_from (ltb s.0 400 && covered (word_at ws k s.0) a b) (covered_all vs k (group m (drawn (word_at ws k) a b s.0) n a b) a b)
-    (and_from (ltb s.0 400) (covered (word_at ws k s.0) a b) (lt-ltb s.0 400 low) ((covered_decides (word_at ws k s.0) a b).1 c.covers))
-    (ap (λ ss. covered_all vs k ss a b)
-    (group_cong m (drawn (word_at ws k) a b s.0) (word_at vs k) n a b
-    (λ t u. ⊎_elim
-    (λ d. drawn_here (word_at ws k) a b s.0 t d ∙ ap (λ (y : ℕ). less (word_at ws k y) a b) d ∙ sym (word_set ws k s.0 x (covers_inside ws k s.0 a b l c.covers)) ∙ ap (word_at vs k) (sym d))
-    (λ d. drawn_other (word_at ws k) a b s.0 t d ∙ sym (word_set_other ws k s.0 x k t low (omega arith) (λ p. d p.1)))
-    (cases_eq t s.0)))
-    ∙ group_covered vs k m n a b h l))
-
-pub put_back_all : (ws : List ℕ) (k : ℕ) (ss : List Seat) (a b : ℕ) → a < b → covered_all ws k ss a b ≡ true → together_all (without_all ws k ss a b) k ss a b ≡ ws
-put_back_all ws k ss a b h c = undone k a b ss ws h c
+    let same = group_cong m (drawn (word_at ws k) a b s.0) (word_at vs k) n a b (λ t _. drawn_without k a b ws s.0 t (covers_inside ws k s.0 a b l c.covers)) in
+    rw (lt-ltb s.0 400 (omega (arith, c.there)), (covered_decides (word_at ws k s.0) a b).1 c.covers, same) (group_covered vs k m n a b h l))
 
 -- ---- parties
-
-pub party_seats : (z : Train) (t : Trip) (ss : List Seat) → length ss ≤ 8 → seats_of (party_of z t ss) ≡ ss
-party_seats z t ss h = take_at ss (replicate (8 - length ss) unused) (length ss) refl
 
 pub below_all : (n : ℕ) (ss : List Seat) → n ≤ 400 → below n ss ≡ true → AllByRecursion (λ (s : Seat). s.0 < 400) ss
 below_all n [] h e = tt

@@ -1,11 +1,15 @@
 -- The words once the span is taken out of some seats, and what the search for a seat keeps. Assumes nothing.
-use Rattle.std.proofs.Common.{◌≡◌, ℕ, ◌+◌, ◌<◌, ◌≤◌, true, false, eqb, List, [], ◌∷◌, Some, None, Option, sym, refl, ap, ◌∙◌, subst, subst₂, arith}
-use Rattle.choosing.specs.Choice.{Choice, Chosen, among, drawn, drawn_all}
-use Rattle.choosing.proofs.Rule.{seat, chosen_skips, chosen_keeps, first_chosen, nearer_chosen, none_left}
-use Rattle.pieces.proofs.Bitwise.{less_uncovered}
-use Rattle.pieces.specs.Stretches.{Covers, less, spare}
+use Rattle.std.proofs.Common.{◌≡◌, ℕ, zero, suc, ◌+◌, ◌<◌, Bool, true, false, cond, not, ◌&&◌, ◌||◌, eqb, ltb, List, [], ◌∷◌, Some, None, Option, MatchOption, IsTrue, sym, refl, ap, ◌∙◌, subst, ⊎_elim, arith}
+use Rattle.std.specs.Option.{IsSomeAnd, option_map}
+use Rattle.std.specs.List.{list_any}
+use Rattle.choosing.specs.Choice.{among, chosen, drawn, drawn_all, nearer}
+use Rattle.choosing.proofs.Rule.{seat, chosen_step, uncovered}
+use Rattle.pieces.proofs.Bitwise.{covered_decides, less_uncovered}
+use Rattle.pieces.specs.Stretches.{Covers, covered, less, spare}
 use Rattle.pieces.specs.declared.names.Seat.{Seat}
-use Rattle.std.proofs.lemmas.Bool.{both_ways, cond_both, cond-true, cond-false, eq-eqb, eqb-false, ne_eqb, or_parts, or_from}
+use Rattle.std.proofs.lemmas.Bool.{both_ways, cases_Bool, cond_both, cond-true, cond-false, eq-eqb, eqb-false, le-ltb, ne_eqb, or_parts, or_from}
+use Rattle.std.proofs.lemmas.List.Recursion.{same_from_clauses}
+use Rattle.std.proofs.lemmas.Option.{none-some, some_pair_parts}
 
 pub drawn_here : (f : ℕ → ℕ) (a b s k : ℕ) → k ≡ s → drawn f a b s k ≡ less (f k) a b
 drawn_here f a b s k e = cond-true (eqb k s) (less (f k) a b) (f k) (eq-eqb k s e)
@@ -36,50 +40,81 @@ not_taken (s ∷ ss) f a b k l c =
 
 -- ---- the search
 
--- what the best seat found leaves, or more than any can
-abbrev pub Least : (ℕ → ℕ) → (a b : ℕ) → Option Seat → ℕ → Type 0
-Least f a b None m = m ≡ 255
-Least f a b (Some s) m = m ≡ spare (f s.0) a b
+any_among : (k : ℕ) (ss : List Seat) → list_any (λ (s : Seat). eqb s.0 k) ss ≡ among k ss
+any_among k ss = same_from_clauses (list_any (λ s. eqb s.0 k)) (among k) (λ s r. eqb s.0 k || r) refl (λ _ _. refl) (λ _ _. refl) ss
 
-abbrev pub Kept : (ℕ → ℕ) → (a b i : ℕ) → Option Seat → ℕ → Type 0
-Kept g a b i r m = Chosen g i a b r × Least g a b r m
-
-pub kept_as : (g : ℕ → ℕ) (a b i : ℕ) {r v : Option Seat} {m n : ℕ} → r ≡ v → m ≡ n → Kept g a b i v n → Kept g a b i r m
-kept_as g a b i e f h = subst₂ (λ x y. Kept g a b i x y) (sym e) (sym f) h
+-- less than what the best seat leaves, if there is one
+abbrev is_less : ℕ → Option (Seat × ℕ) → Bool
+is_less m None = true
+is_less m (Some x) = ltb m x.1
 
 module _ (f : ℕ → ℕ) (ss : List Seat) (a b : ℕ) (ordered : a < b) where
   -- the words that the search goes by
   abbrev g : ℕ → ℕ
   g = drawn_all f a b ss
 
-  here : (i : ℕ) → Covers (g i) a b → g i ≡ f i
-  here i c = kept_word ss f a b i (not_taken ss f a b i ordered c)
+  abbrev with_left : Option Seat → Option (Seat × ℕ)
+  with_left r = option_map (λ s. (s, spare (g s.0) a b)) r
 
-  -- a seat that does not cover the span
-  pub kept_skips : (i : ℕ) (r : Option Seat) (m : ℕ) → Kept g a b i r m → (Covers (f i) a b → ⊥) → Kept g a b (i + 1) r m
-  kept_skips i r m h n = (chosen_skips g a b i r h.0 (λ c. n (subst (λ (w : ℕ). Covers w a b) (here i c) c)), h.1)
+  -- the choice among the first n seats, with what it leaves
+  abbrev pub best : ℕ → Option (Seat × ℕ)
+  best n = with_left (chosen g n a b)
 
-  -- one that the span was taken out of
-  pub kept_passes : (i : ℕ) (r : Option Seat) (m : ℕ) → Kept g a b i r m → among i ss ≡ true → Kept g a b (i + 1) r m
-  kept_passes i r m h t = (chosen_skips g a b i r h.0 (λ c. both_ways (among i ss) (not_taken ss f a b i ordered c) t), h.1)
+  -- a seat that does not cover the span any more
+  passes : (n : ℕ) → (Covers (g n) a b → ⊥) → best (n + 1) ≡ best n
+  passes n h = rw (chosen_step g n a b, uncovered (g n) a b h)
 
-  -- one that leaves no less
-  pub kept_keeps : (i : ℕ) (r : Option Seat) (m : ℕ) → Kept g a b i r m → spare (f i) a b < 255 → m ≤ spare (f i) a b → Kept g a b (i + 1) r m
-  kept_keeps i None m h s l = absurd (omega (arith, h.1))
-  kept_keeps i (Some x) m h s l = (chosen_keeps g a b i x h.0 (λ c. omega (arith, h.1, l, ap (λ (w : ℕ). spare w a b) (here i c))), h.1)
+  pub skips : (n : ℕ) → (Covers (f n) a b → ⊥) → best (n + 1) ≡ best n
+  skips n h = passes n (λ c. h (covers_first ss f a b n ordered c))
 
-  -- one that leaves less
-  pub kept_takes : (i : ℕ) (r : Option Seat) (m n : ℕ) → Kept g a b i r m → among i ss ≡ false → Covers (f i) a b → n ≡ spare (f i) a b → n < m → Kept g a b (i + 1) (Some (seat i)) n
-  kept_takes i r m n h t c e l =
-      let same : g i ≡ f i = kept_word ss f a b i t in
-      let d = subst (λ (w : ℕ). Covers w a b) (sym same) c in
-      let now : n ≡ spare (g i) a b = e ∙ ap (λ (w : ℕ). spare w a b) (sym same) in
-      (go r m h d now l, now)
+  -- a seat that covers it at first
+  covered_once : (n : ℕ) → Covers (f n) a b → best (n + 1) ≡ cond (not (among n ss) && is_less (spare (f n) a b) (best n)) (Some (seat n, spare (f n) a b)) (best n)
+  covered_once n c = ⊎_elim
+      (λ h. rw h (passes n (λ d. both_ways (among n ss) (not_taken ss f a b n ordered d) h)))
+      (λ h.
+      let e = kept_word ss f a b n h in
+      let d : covered (g n) a b ≡ true = (covered_decides (g n) a b).1 (rw e c) in
+      rw (chosen_step g n a b, d, h, ← e) (go (chosen g n a b)))
+      (cases_Bool (among n ss))
     where
-      go : (r : Option Seat) (m : ℕ) → Kept g a b i r m → Covers (g i) a b → n ≡ spare (g i) a b → n < m → Choice g (i + 1) a b i
-      go None m h d now l = first_chosen g a b i h.0 d
-      go (Some s) m h d now l = nearer_chosen g a b i s.0 h.0 d (omega (arith, h.1, now, l))
+      pick : (u : Bool) (s t : Seat) → with_left (cond u (Some s) (Some t)) ≡ cond u (with_left (Some s)) (with_left (Some t))
+      pick true s t = refl
+      pick false s t = refl
 
-  -- and nothing
-  pub kept_stops : (i n : ℕ) (m : ℕ) → i < n → Kept g a b (i + 1) (Some (seat i)) m → m ≡ 0 → Chosen g n a b (Some (seat i))
-  kept_stops i n m l h e = none_left g a b i n l h.0 (sym h.1 ∙ e)
+      go : (r : Option Seat) → with_left (nearer g n a b r) ≡ cond (is_less (spare (g n) a b) (with_left r)) (Some (seat n, spare (g n) a b)) (with_left r)
+      go None = refl
+      go (Some s) = pick (ltb (spare (g n) a b) (spare (g s.0) a b)) (seat n) s
+
+  -- as the search sees it: whether it is less by what `is_none_or` says, and taken by what `contains` says
+  pub takes : (n left : ℕ) (o : Option (Seat × ℕ)) (Q : Seat × ℕ → Type 0) (less : Bool) → o ≡ best n → Covers (f n) a b → left ≡ spare (f n) a b
+      → MatchOption o (IsTrue less) Q → ((x : Seat × ℕ) → Q x → less ≡ ltb left x.1)
+      → best (n + 1) ≡ cond (not (list_any (λ (s : Seat). eqb s.0 n) ss) && less) (Some (seat n, left)) o
+  takes n left o Q less e c l h k = let t = test o h in cc (covered_once n c, any_among n ss)
+    where
+      test : (o : Option (Seat × ℕ)) → MatchOption o (IsTrue less) Q → less ≡ is_less left o
+      test None h = h
+      test (Some x) h = k x h
+
+  -- one that leaves nothing: no higher one goes before it
+  pub stops : (d n : ℕ) (s : Seat) → best n ≡ Some (s, 0) → best (d + n) ≡ Some (s, 0)
+  stops zero n s e = let i : 0 + n ≡ n = omega arith in ap best i ∙ e
+  stops (suc d) n s e =
+      let i : suc d + n ≡ d + n + 1 = omega arith in
+      let h = stops d n s e in
+      rw (i, chosen_step g (d + n) a b) (go (d + n) (chosen g (d + n) a b) (covered (g (d + n)) a b) s h ∙ h)
+    where
+      go : (i : ℕ) (r : Option Seat) (u : Bool) (s : Seat) → with_left r ≡ Some (s, 0) → with_left (cond u (nearer g i a b r) r) ≡ with_left r
+      go i r false s h = refl
+      go i None true s h = absurd (none-some _ h)
+      go i (Some t) true s h =
+          rw (le-ltb (spare (g i) a b) (spare (g t.0) a b) (omega (arith, (some_pair_parts _ _ _ _ h).1)))
+
+  -- without what is left, the choice
+  pub bare : (n : ℕ) (o : Option (Seat × ℕ)) (r : Option Seat) (Q : Seat × ℕ → Seat → Type 0) → o ≡ best n
+      → MatchOption o (r ≡ None) (λ x. IsSomeAnd r (Q x)) → ((x : Seat × ℕ) (s : Seat) → Q x s → s ≡ x.0) → r ≡ chosen g n a b
+  bare n o r Q e h k = go (chosen g n a b) r (subst (λ x. MatchOption x (r ≡ None) (λ x. IsSomeAnd r (Q x))) e h)
+    where
+      go : (c r : Option Seat) → MatchOption (with_left c) (r ≡ None) (λ x. IsSomeAnd r (Q x)) → r ≡ c
+      go None r h = h
+      go (Some s) None h = absurd h
+      go (Some s) (Some t) h = ap (λ x. Some x) (k (s, spare (g s.0) a b) t h)

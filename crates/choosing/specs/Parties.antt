@@ -1,5 +1,6 @@
 -- The seats of a party, and its pieces.
-use Rattle.std.specs.Prelude.{ℕ, ◌-◌, Bool, true, ◌&&◌, List, [], ◌∷◌, ◌++◌, map, length, take, replicate, nat_le, nat_lt}
+use Rattle.std.specs.Prelude.{ℕ, ◌-◌, Bool, true, ◌&&◌, List, [], ◌∷◌, ◌++◌, map, length, min, take, replicate, nat_le, nat_lt}
+use Rattle.std.proofs.Math.Nat.{min-le_right}
 use Rattle.choosing.specs.declared.party.Party.{Party}
 use Rattle.pieces.specs.Parts.{piece_of}
 use Rattle.pieces.specs.declared.names.Seat.{Seat}
@@ -13,7 +14,7 @@ unused = record { 0 = 0 }
 
 -- the party that has these seats, if they are no more than eight
 abbrev pub party_of : Train → Trip → List Seat → Party
-party_of z t ss = record { train = z; trip = t; seats = ss ++ replicate (8 - length ss) unused; count = length ss }
+party_of z t ss = record { train = z; trip = t; seats = ss ++ replicate (8 - length ss) unused; count = min (length ss) 8; few = min-le_right (length ss) 8 }
 
 abbrev pub seats_of : Party → List Seat
 seats_of p = take p.count p.seats

@@ -9,8 +9,6 @@ pub mod party;
 mod tests;
 
 // The rule has exactly one choice, and takes as many seats as can be taken.
-pub fn choices_stand() -> u8
+pub fn choices_stand()
     ensures { Choices }
-{
-    0
-}
+{}

@@ -1,4 +1,6 @@
 // A party: people who make one trip on a train, each with a seat of their own, in the order in which the seats were taken.
+ghost use Rattle.std.specs.Prelude.{◌≤◌};
+
 use pieces::names::{Seat, Train};
 use pieces::trip::Trip;
 
@@ -12,6 +14,7 @@ pub const MOST: usize = 8;
 pub struct Party {
     pub train: Train,
     pub trip: Trip,
-    seats: [Seat; 8],
+    seats: [Seat; MOST],
     count: u8,
+    ghost few: { count ≤ 8 },
 }

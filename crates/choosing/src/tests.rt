@@ -4,10 +4,7 @@ use pieces::trip::Trip;
 use std::test::Fail;
 
 fn trip_of(from: u8, to: u8) -> Result<Trip, Fail> {
-    match Trip::new(Stop(from), Stop(to)) {
-        Some(trip) => Ok(trip),
-        None => Err(Fail::new("no trip")),
-    }
+    Trip::new(Stop(from), Stop(to)).ok_or_else(|| Fail::new("no trip"))
 }
 
 #[test]

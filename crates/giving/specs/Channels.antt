@@ -1,5 +1,5 @@
 -- A channel as plain numbers and a list, and what may happen to it.
-use Rattle.std.specs.Prelude.{ℕ, ◌+◌, ◌-◌, max, Bool, cond, not, ◌&&◌, List, [], ◌∷◌, ◌++◌, length, drop, ◌==◌, nat_le, nat_lt, slice_index_or}
+use Rattle.std.specs.Prelude.{ℕ, ◌+◌, ◌-◌, max, Bool, cond, not, ◌&&◌, List, [], ◌∷◌, ◌++◌, length, drop, sum_by, ◌==◌, nat_le, nat_lt, slice_index_or}
 use Rattle.std.specs.declared.cmp.Ordering.TheVariants.{Less, Equal, Greater}
 use Rattle.std.specs.declared.cmp.Ordering.{Ordering}
 use Rattle.std.specs.VecDeque.{deque_items}
@@ -13,7 +13,7 @@ pub record Chan : Type 0 where
   pub waiting : List Piece
 
 abbrev pub chan : Channel → Chan
-chan c = record { given = c.given; heard = c.heard; taken = c.taken; waiting = deque_items c.waiting }
+chan c = record { given = c.given.0; heard = c.heard.0; taken = c.taken.0; waiting = deque_items c.waiting }
 
 abbrev pub fresh : Chan
 fresh = record { given = 0; heard = 0; taken = 0; waiting = [] }
@@ -44,8 +44,7 @@ stands c n = cond (nat_le n c.taken) Less (cond (n == c.taken + 1) Equal Greater
 
 -- how many pieces wait in all channels together
 abbrev pub all_waiting : List Chan → ℕ
-all_waiting [] = 0
-all_waiting (c ∷ cs) = length c.waiting + all_waiting cs
+all_waiting cs = sum_by (λ c. length c.waiting) cs
 
 -- a piece more may wait
 abbrev pub roomy : List Chan → Bool

@@ -1,5 +1,5 @@
--- The number of each refusal.
-use Rattle.std.specs.Prelude.{ℕ, Some, None, Option}
+-- The number of each refusal, and what it prints.
+use Rattle.std.specs.Prelude.{ℕ, List, Some, None, Option, codes, decimal}
 use Rattle.giving.specs.declared.refusal.Refusal.{Refusal}
 use Rattle.giving.specs.declared.refusal.Refusal.TheVariants.{Malformed, OutOfTurn, NotOpen, NothingHeld, NoSuchTicket, Full, NoSuchStation, Memory}
 
@@ -12,3 +12,7 @@ number NoSuchTicket = Some 5
 number Full = Some 6
 number NoSuchStation = Some 7
 number Memory = None
+
+-- what a refusal prints
+abbrev pub printed : Refusal → List ℕ
+printed r = elim (number r) [ Some n ↦ decimal n | None ↦ codes "memory" ]

@@ -4,6 +4,7 @@
 ghost use Rattle.std.specs.Prelude.{◌≡◌, ◌+◌, ◌≤◌};
 ghost use Rattle.std.specs.VecDeque.{deque_len, deque_capacity};
 
+use crate::ids::Number;
 use pieces::piece::Piece;
 use std::collections::VecDeque;
 
@@ -11,10 +12,11 @@ pub mod moves;
 
 #[derive(Drop)]
 pub struct Channel {
-    given: u32,
-    heard: u32,
-    taken: u32,
+    given: Number,
+    heard: Number,
+    taken: Number,
     waiting: VecDeque<Piece>,
-    ghost counted: { heard + deque_len waiting ≡ given },
+    ghost numbers: { given.0 ≤ 4294967295 },
+    ghost counted: { heard.0 + deque_len waiting ≡ given.0 },
     ghost room: { 4096 ≤ deque_capacity waiting },
 }

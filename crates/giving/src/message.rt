@@ -2,7 +2,7 @@
 use crate::ids::{Number, StationId};
 use pieces::piece::Piece;
 
-#[derive(Clone, Copy, Drop)]
+#[derive(Clone, Copy, Debug, PartialEq, Eq, Drop)]
 pub enum Body {
     // this piece is given, under this number
     Given(Number, Piece),
@@ -10,7 +10,7 @@ pub enum Body {
     Taken(Number),
 }
 
-#[derive(Clone, Copy, Drop)]
+#[derive(Clone, Copy, Debug, PartialEq, Eq, Drop)]
 pub struct Message {
     pub from: StationId,
     pub to: StationId,

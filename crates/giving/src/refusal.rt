@@ -1,8 +1,12 @@
 // Why something is refused.
-ghost use Rattle.std.specs.Prelude.{◌≡◌, Option};
-ghost use Rattle.giving.specs.Refusals.{number};
+ghost use Rattle.std.specs.Prelude.{◌≡◌, Option, Some};
+ghost use Rattle.giving.specs.Refusals.{number, printed};
+ghost use Rattle.giving.specs.declared.refusal.Refusal.TheVariants.{Memory};
 
-#[derive(Clone, Copy, Drop)]
+use std::alloc::{AllocError, AllocFailed};
+use std::fmt;
+
+#[derive(Clone, Copy, Debug, PartialEq, Eq, Drop)]
 pub enum Refusal {
     // a stop or a seat that the train has not, or more acknowledged than was given
     Malformed,
@@ -36,5 +40,32 @@ impl Refusal {
             Refusal::NoSuchStation => Some(7),
             Refusal::Memory => None,
         }
+    }
+}
+
+impl fmt::Display for Refusal {
+    ghost output = { λ r. Some (printed r) };
+
+    fn fmt<W: fmt::Write>(&self, f: &mut fmt::Formatter<W>) -> fmt::Result {
+        match self.number() {
+            Some(number) => write!(f, "{number}"),
+            None => f.write_str("memory"),
+        }
+    }
+}
+
+impl From<AllocError> for Refusal {
+    ghost from_gives = { λ _ r. r ≡ Memory };
+
+    fn from(_error: AllocError) -> Refusal {
+        Refusal::Memory
+    }
+}
+
+impl<T: Drop> From<AllocFailed<T>> for Refusal {
+    ghost from_gives = { λ _ r. r ≡ Memory };
+
+    fn from(_failed: AllocFailed<T>) -> Refusal {
+        Refusal::Memory
     }
 }

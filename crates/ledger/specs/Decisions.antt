@@ -1,7 +1,8 @@
 -- What each call decides, and what a station says of it.
-use Rattle.std.specs.Prelude.{◌≡◌, ◌+◌, Bool, true, false, cond, not, ◌&&◌, ◌||◌, List, [], ◌∷◌, Some, None, Option, nat_le}
+use Rattle.std.specs.Prelude.{◌≡◌, ◌+◌, Bool, true, false, cond, not, ◌&&◌, ◌||◌, List, [], ◌∷◌, Some, None, Option, nat_le, Ok, Err, Result}
 use Rattle.std.specs.declared.cmp.Ordering.TheVariants.{Less, Equal, Greater}
 use Rattle.std.specs.declared.cmp.Ordering.{Ordering}
+use Rattle.giving.specs.Calls.{unless}
 use Rattle.giving.specs.Channels.{line, stands, news, numbered, roomy, other}
 use Rattle.giving.specs.declared.ids.StationId.{StationId}
 use Rattle.giving.specs.declared.message.Body.TheVariants as body
@@ -13,7 +14,7 @@ use Rattle.state.specs.States.{State, is_open, known, openable, holds_piece, sol
 use Rattle.ledger.specs.declared.input.Input.{Input}
 use Rattle.ledger.specs.declared.input.Input.TheVariants.{Close, Sell, Undo, Give, Take, Hear}
 use Rattle.ledger.specs.declared.input.Outcome.{Outcome}
-use Rattle.ledger.specs.declared.input.Outcome.TheVariants.{Done, Nothing, Passed, Refused}
+use Rattle.ledger.specs.declared.input.Outcome.TheVariants.{Done, Nothing, Passed}
 use Rattle.state.specs.declared.record.Record.{Record}
 use Rattle.state.specs.declared.record.Record.TheVariants.{Opened, Closed, Sold, Undone, Given, Taken, Heard}
 use Rattle.pieces.specs.declared.piece.Piece.{Piece}
@@ -21,77 +22,77 @@ use Rattle.timetable.specs.Additions.{admitted, put}
 use Rattle.timetable.specs.Rows.{Table, listed, within}
 use Rattle.timetable.specs.declared.row.Row.{Row}
 
--- the first ground that fails, or the outcome: grounds stand in the order of their numbers
-abbrev pub unless : Bool → Refusal → Outcome → Outcome
-unless ok e o = cond ok o (Refused e)
+-- what a call came to, or why it was refused
+abbrev pub Answer : Type 0
+Answer = Result Outcome Refusal
 
--- a call on a piece: one that the train has not is refused by 1, a train that is not open by 3
-abbrev pub judged : Option Row → Piece → (there : Bool) → Outcome → Outcome
-judged None p there o = Refused NotOpen
+-- a call on a piece, by the grounds in the order of their numbers: one that the train has not is refused by 1, a train that is not open by 3
+abbrev pub judged : Option Row → Piece → (there : Bool) → Answer → Answer
+judged None p there o = Err NotOpen
 judged (Some r) p there o = unless (within r p) Malformed (unless there NotOpen o)
 
 -- the next number is taken, every other is passed over
-abbrev pub turned : Ordering → Outcome → Outcome
-turned Less o = Passed OutOfTurn
+abbrev pub turned : Ordering → Answer → Answer
+turned Less o = Ok (Passed OutOfTurn)
 turned Equal o = o
-turned Greater o = Passed OutOfTurn
+turned Greater o = Ok (Passed OutOfTurn)
 
-abbrev pub decided : Table → State → Input → Outcome
-decided tb s (Close t) = unless (is_open s t) NotOpen (Done (Closed t))
+abbrev pub decided : Table → State → Input → Answer
+decided tb s (Close t) = unless (is_open s t) NotOpen (Ok (Done (Closed t)))
 decided tb s (Sell p) =
     judged (tb p.train.0) p (is_open s p.train)
     (unless (holds_piece s p) NothingHeld
     (unless (tickets_left s) Full
-    (Done (Sold (record { 0 = sold s + 1 }) p))))
-decided tb s (Undo n) = unless (returnable tb s (ticket_of s n.0)) NoSuchTicket (Done (Undone n))
+    (Ok (Done (Sold (record { 0 = sold s + 1 }) p)))))
+decided tb s (Undo n) = unless (returnable tb s (ticket_of s n.0)) NoSuchTicket (Ok (Done (Undone n)))
 decided tb s (Give to p) =
     judged (tb p.train.0) p (is_open s p.train)
     (unless (roomy s.channels && numbered (line s.channels to.0)) Full
     (unless (other s.me s.channels to.0) NoSuchStation
-    (cond (holds_piece s p) (Done (Given to (record { 0 = (line s.channels to.0).given + 1 }) p)) Nothing)))
+    (cond (holds_piece s p) (Ok (Done (Given to (record { 0 = (line s.channels to.0).given + 1 }) p))) (Ok Nothing))))
 decided tb s (Take from n p) =
     unless (listed (tb p.train.0) p) Malformed
     (unless (other s.me s.channels from.0) NoSuchStation
     (turned (stands (line s.channels from.0) n.0)
-    (cond (known s p.train || openable s) (Done (Taken from n p)) (Passed Full))))
+    (cond (known s p.train || openable s) (Ok (Done (Taken from n p))) (Ok (Passed Full)))))
 decided tb s (Hear from n) =
     unless (other s.me s.channels from.0) NoSuchStation
     (unless (nat_le n.0 (line s.channels from.0).given) Malformed
-    (cond (news (line s.channels from.0) n.0) (Done (Heard from n)) Nothing))
+    (cond (news (line s.channels from.0) n.0) (Ok (Done (Heard from n))) (Ok Nothing)))
 
 -- to open a train, with its row of the timetable
-abbrev pub decided_open : Table → State → Row → Outcome
+abbrev pub decided_open : Table → State → Row → Answer
 decided_open tb s r =
     unless (admitted (tb r.train.0) r) Malformed
     (unless (not (known s r.train)) NotOpen
     (unless (openable s) Full
-    (Done (Opened r.train))))
+    (Ok (Done (Opened r.train)))))
 
 -- the timetable after an opening: it has the row, if the train was opened
-abbrev pub listing : Table → Row → Outcome → Table
-listing tb r (Done e) = put tb r
-listing tb r Nothing = tb
-listing tb r (Passed q) = tb
-listing tb r (Refused q) = tb
+abbrev pub listing : Table → Row → Answer → Table
+listing tb r (Ok (Done e)) = put tb r
+listing tb r (Ok Nothing) = tb
+listing tb r (Ok (Passed q)) = tb
+listing tb r (Err q) = tb
 
 -- what is decided may be written
 abbrev pub DecidedFits : Type 0
-DecidedFits = ((tb : Table) (s : State) (i : Input) (e : Record) → decided tb s i ≡ Done e → fits tb s e ≡ true)
-    × ((tb : Table) (s : State) (r : Row) (e : Record) → decided_open tb s r ≡ Done e → fits (listing tb r (Done e)) s e ≡ true)
+DecidedFits = ((tb : Table) (s : State) (i : Input) (e : Record) → decided tb s i ≡ Ok (Done e) → fits tb s e ≡ true)
+    × ((tb : Table) (s : State) (r : Row) (e : Record) → decided_open tb s r ≡ Ok (Done e) → fits (listing tb r (Ok (Done e))) s e ≡ true)
 
 -- ---- what a call came to
 
-abbrev pub after : Table → State → Outcome → State
-after tb s (Done e) = apply tb s e
-after tb s Nothing = s
-after tb s (Passed r) = s
-after tb s (Refused r) = s
+abbrev pub after : Table → State → Answer → State
+after tb s (Ok (Done e)) = apply tb s e
+after tb s (Ok Nothing) = s
+after tb s (Ok (Passed r)) = s
+after tb s (Err r) = s
 
-abbrev pub records : Outcome → List Record
-records (Done e) = e ∷ []
-records Nothing = []
-records (Passed r) = []
-records (Refused r) = []
+abbrev pub records : Answer → List Record
+records (Ok (Done e)) = e ∷ []
+records (Ok Nothing) = []
+records (Ok (Passed r)) = []
+records (Err r) = []
 
 abbrev pub is_memory : Refusal → Bool
 is_memory Malformed = false
@@ -103,11 +104,11 @@ is_memory Full = false
 is_memory NoSuchStation = false
 is_memory Memory = true
 
-abbrev pub for_memory : Outcome → Bool
-for_memory (Done e) = false
-for_memory Nothing = false
-for_memory (Passed r) = false
-for_memory (Refused r) = is_memory r
+abbrev pub for_memory : Answer → Bool
+for_memory (Ok (Done e)) = false
+for_memory (Ok Nothing) = false
+for_memory (Ok (Passed r)) = false
+for_memory (Err r) = is_memory r
 
 -- ---- what is said of it, by the state afterwards
 
@@ -119,11 +120,11 @@ notice s to p = record { from = record { 0 = s.me }; to = to; body = body.Given 
 abbrev pub receipt : State → StationId → Message
 receipt s from = record { from = record { 0 = s.me }; to = from; body = body.Taken (record { 0 = (line s.channels from.0).taken }) }
 
-abbrev pub is_done : Outcome → Bool
-is_done (Done e) = true
-is_done Nothing = false
-is_done (Passed r) = false
-is_done (Refused r) = false
+abbrev pub is_done : Answer → Bool
+is_done (Ok (Done e)) = true
+is_done (Ok Nothing) = false
+is_done (Ok (Passed r)) = false
+is_done (Err r) = false
 
 abbrev pub is_turn : Refusal → Bool
 is_turn Malformed = false
@@ -136,13 +137,13 @@ is_turn NoSuchStation = false
 is_turn Memory = false
 
 -- what was taken is answered, and so is a number that is not the next
-abbrev pub answered : Outcome → Bool
-answered (Done e) = true
-answered Nothing = false
-answered (Passed r) = is_turn r
-answered (Refused r) = false
+abbrev pub answered : Answer → Bool
+answered (Ok (Done e)) = true
+answered (Ok Nothing) = false
+answered (Ok (Passed r)) = is_turn r
+answered (Err r) = false
 
-abbrev pub messages : State → Input → Outcome → List Message
+abbrev pub messages : State → Input → Answer → List Message
 messages s (Close t) o = []
 messages s (Sell p) o = []
 messages s (Undo n) o = []

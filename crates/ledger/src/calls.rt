@@ -24,10 +24,10 @@ use timetable::timetable::Timetable;
 // Finds the memory for what is said.
 fn make_room(out: &mut Vec<Message>, input: Input, outcome: Outcome) -> Result<(), Refusal>
     ensures same { out.new.items ≡ out.old.items }
-    ensures cases { MatchResult result (λ _. said input outcome ≡ true → vec_len out.new < vec_capacity out.new) (λ e. (e ≡ Memory) × Unsaid out.old input outcome) }
+    ensures cases { MatchResult result (λ _. said input (Ok outcome) ≡ true → vec_len out.new < vec_capacity out.new) (λ e. (e ≡ Memory) × Unsaid out.old input (Ok outcome)) }
 {
-    if is_said(input, outcome) && out.reserve(1).is_err() {
-        return Err(Refusal::Memory);
+    if is_said(input, Ok(outcome)) {
+        out.reserve(1)?;
     }
     Ok(())
 }
@@ -40,12 +40,10 @@ fn make_ready(
 ) -> Result<(), Refusal>
     ensures state { view station.new ≡ view station.old }
     ensures same { journal.new.items ≡ journal.old.items }
-    ensures cases { MatchResult result (λ _. Ready station.new entry × (vec_len journal.new < vec_capacity journal.new)) (λ e. (e ≡ Memory) × Unwritten station.old journal.old (Done entry)) }
+    ensures cases { MatchResult result (λ _. Ready station.new entry × (vec_len journal.new < vec_capacity journal.new)) (λ e. (e ≡ Memory) × Unwritten station.old journal.old (Ok (Done entry))) }
 {
     station.reserve(entry)?;
-    if journal.reserve(1).is_err() {
-        return Err(Refusal::Memory);
-    }
+    journal.reserve(1)?;
     Ok(())
 }
 
@@ -63,10 +61,10 @@ fn write(station: &mut Station, table: &Timetable, journal: &mut Vec<Record>, en
 
 // Says what is to be said of a call, for which there is room.
 fn say(station: &Station, out: &mut Vec<Message>, input: Input, outcome: Outcome)
-    requires { said input outcome ≡ true → vec_len out.old < vec_capacity out.old }
-    ensures { out.new.items ≡ out.old.items ++ messages (view station.now) input outcome }
+    requires { said input (Ok outcome) ≡ true → vec_len out.old < vec_capacity out.old }
+    ensures { out.new.items ≡ out.old.items ++ messages (view station.now) input (Ok outcome) }
 {
-    if let Some(message) = reply(station, input, outcome) {
+    if let Some(message) = reply(station, input, Ok(outcome)) {
         out.push_reserved(message);
     }
 }
@@ -79,9 +77,9 @@ fn settle(
     outcome: Outcome,
 ) -> Result<(), Refusal>
     requires { (e : Entry) → outcome ≡ Done e → fits (rows_of table.now) (view station.old) e ≡ true }
-    ensures state { MatchResult result (λ _. view station.new ≡ after (rows_of table.now) (view station.old) outcome) (λ _. view station.new ≡ view station.old) }
-    ensures written { MatchResult result (λ _. journal.new.items ≡ journal.old.items ++ records outcome) (λ _. journal.new.items ≡ journal.old.items) }
-    ensures memory { MatchResult result (λ _. Unit) (λ e. (e ≡ Memory) × Unwritten station.old journal.old outcome) }
+    ensures state { MatchResult result (λ _. view station.new ≡ after (rows_of table.now) (view station.old) (Ok outcome)) (λ _. view station.new ≡ view station.old) }
+    ensures written { MatchResult result (λ _. journal.new.items ≡ journal.old.items ++ records (Ok outcome)) (λ _. journal.new.items ≡ journal.old.items) }
+    ensures memory { MatchResult result (λ _. Unit) (λ e. (e ≡ Memory) × Unwritten station.old journal.old (Ok outcome)) }
 {
     let Outcome::Done(entry) = outcome else {
         return Ok(());
@@ -98,22 +96,18 @@ pub fn call(
     journal: &mut Vec<Record>,
     out: &mut Vec<Message>,
     input: Input,
-) -> Outcome
+) -> Result<Outcome, Refusal>
     ensures state { view station.new ≡ after (rows_of table.now) (view station.old) result }
     ensures written { journal.new.items ≡ journal.old.items ++ records result }
     ensures said { out.new.items ≡ out.old.items ++ messages (view station.new) input result }
     ensures answer { for_memory result ≡ false → result ≡ decided (rows_of table.now) (view station.old) input }
     ensures memory { for_memory result ≡ true → Short station.old journal.old out.old input (decided (rows_of table.now) (view station.old) input) }
 {
-    let outcome = decide(station, table, input);
-    if let Err(refusal) = make_room(out, input, outcome) {
-        return Outcome::Refused(refusal);
-    }
-    if let Err(refusal) = settle(station, table, journal, outcome) {
-        return Outcome::Refused(refusal);
-    }
+    let outcome = decide(station, table, input)?;
+    make_room(out, input, outcome)?;
+    settle(station, table, journal, outcome)?;
     say(station, out, input, outcome);
-    outcome
+    Ok(outcome)
 }
 
 // Opens a train with its row, which the timetable then has.
@@ -122,30 +116,24 @@ pub fn open(
     table: &mut Timetable,
     journal: &mut Vec<Record>,
     row: Row,
-) -> Outcome
+) -> Result<Outcome, Refusal>
     ensures state { view station.new ≡ after (rows_of table.new) (view station.old) result }
     ensures listed { rows_of table.new ≡ listing (rows_of table.old) row result }
     ensures written { journal.new.items ≡ journal.old.items ++ records result }
     ensures answer { for_memory result ≡ false → result ≡ decided_open (rows_of table.old) (view station.old) row }
     ensures memory { for_memory result ≡ true → ShortOpen station.old journal.old (rows_of table.old row.train.0) (decided_open (rows_of table.old) (view station.old) row) }
 {
-    let outcome = decide_open(station, table, row);
+    let outcome = decide_open(station, table, row)?;
     let Outcome::Done(entry) = outcome else {
-        return outcome;
+        return Ok(outcome);
     };
-    if let Err(refusal) = make_ready(station, journal, entry) {
-        return Outcome::Refused(refusal);
-    }
-    if let Err(refusal) = table.add(row) {
-        return Outcome::Refused(refusal);
-    }
+    make_ready(station, journal, entry)?;
+    table.add(row)?;
     write(station, table, journal, entry);
-    outcome
+    Ok(outcome)
 }
 
 // What is decided fits the state that it is decided by.
-pub fn decisions_stand() -> u8
+pub fn decisions_stand()
     ensures { DecidedFits }
-{
-    0
-}
+{}

@@ -7,28 +7,11 @@ ghost use Rattle.state.specs.Views.{view};
 ghost use Rattle.std.specs.Option.{option_to_list};
 
 use crate::input::{Input, Outcome};
-use giving::ids::{Number, StationId};
+use giving::ids::StationId;
 use giving::message::{Body, Message};
 use giving::refusal::Refusal;
 use pieces::piece::Piece;
 use state::station::Station;
-
-// The last number that was used for a piece to a station: that of the last piece that waits, or the last one heard of.
-fn given_to(station: &Station, to: StationId) -> Number
-    ensures { result ≡ record { 0 = (line (view station.now).channels to.0).given } }
-{
-    let Some(channel) = station.channels().channel(to) else {
-        return Number(0);
-    };
-    let count = channel.waiting_len();
-    if count == 0 {
-        return channel.heard_to();
-    }
-    match channel.waiting_at(count - 1) {
-        None => channel.heard_to(),
-        Some(last) => last.0,
-    }
-}
 
 fn notice_of(station: &Station, to: StationId, piece: Piece) -> Message
     ensures { result ≡ notice (view station.now) to piece }
@@ -36,7 +19,7 @@ fn notice_of(station: &Station, to: StationId, piece: Piece) -> Message
     Message {
         from: station.me(),
         to,
-        body: Body::Given(given_to(station, to), piece),
+        body: Body::Given(station.channels().given_to(to), piece),
     }
 }
 
@@ -51,42 +34,38 @@ fn receipt_of(station: &Station, from: StationId) -> Message
 }
 
 // Whether anything was done.
-fn is_done(outcome: Outcome) -> bool
-    ensures { result ≡ is_done outcome }
+fn is_done(answer: Result<Outcome, Refusal>) -> bool
+    ensures { result ≡ is_done answer }
 {
-    match outcome {
-        Outcome::Done(_) => true,
-        _ => false,
-    }
+    matches!(answer, Ok(Outcome::Done(_)))
 }
 
 // Whether a piece that came is answered: it was taken, or its number is not the next.
-fn is_answered(outcome: Outcome) -> bool
-    ensures { result ≡ answered outcome }
+fn is_answered(answer: Result<Outcome, Refusal>) -> bool
+    ensures { result ≡ answered answer }
 {
-    match outcome {
-        Outcome::Done(_) => true,
-        Outcome::Passed(Refusal::OutOfTurn) => true,
-        _ => false,
-    }
+    matches!(
+        answer,
+        Ok(Outcome::Done(_) | Outcome::Passed(Refusal::OutOfTurn))
+    )
 }
 
 // Whether a call that came to this has a message.
-pub fn is_said(input: Input, outcome: Outcome) -> bool
-    ensures { result ≡ said input outcome }
+pub fn is_said(input: Input, answer: Result<Outcome, Refusal>) -> bool
+    ensures { result ≡ said input answer }
 {
     match input {
-        Input::Give(_, _) => is_done(outcome),
-        Input::Take(_, _, _) => is_answered(outcome),
+        Input::Give(_, _) => is_done(answer),
+        Input::Take(_, _, _) => is_answered(answer),
         _ => false,
     }
 }
 
 // What the station says after a call: of a piece that it gave, or up to where it has taken another station's pieces.
-pub fn reply(station: &Station, input: Input, outcome: Outcome) -> Option<Message>
-    ensures { option_to_list result ≡ messages (view station.now) input outcome }
+pub fn reply(station: &Station, input: Input, answer: Result<Outcome, Refusal>) -> Option<Message>
+    ensures { option_to_list result ≡ messages (view station.now) input answer }
 {
-    if !is_said(input, outcome) {
+    if !is_said(input, answer) {
         return None;
     }
     match input {

@@ -1,67 +1,52 @@
 -- How often a stretch of a seat stands in lists of pieces, and what journals give and take.
 -- Assumes nothing.
-use Rattle.std.proofs.Common.{◌≡◌, ℕ, zero, suc, ◌+◌, ◌<◌, Bool, true, false, cond, eqb, ◌⊎◌, List, [], ◌∷◌, ◌++◌, map, get_or, set, sym, refl, ap, ◌∙◌, inl, inr, append_assoc, append-nil, arith}
+use Rattle.std.proofs.Common.{◌≡◌, ℕ, zero, suc, ◌+◌, ◌<◌, cond, eqb, List, [], ◌∷◌, ◌++◌, map, get_or, set, sym, refl, ap, ◌∙◌, append_assoc, arith, Some, None, Option}
 use Rattle.state.specs.Changes.{forgotten, trimmed}
 use Rattle.state.specs.declared.record.Record.{Record}
-use Rattle.state.specs.declared.record.Record.TheVariants.{Opened, Closed, Sold, Undone, Given, Taken, Heard}
-use Rattle.state.specs.declared.record.Sale.{Sale}
-use Rattle.state.specs.declared.record.Sale.TheVariants.{Stands, Returned}
-use Rattle.network.proofs.Sum.{sum_to, sum_one}
+use Rattle.state.specs.declared.record.Record.TheVariants.{Given, Taken}
+use Rattle.network.proofs.Sum.{sum_to, sum_cong, sum_add, sum_one}
+use Rattle.std.specs.List.{flat_map, sum_by}
+use Rattle.std.proofs.lemmas.Bool.Decides.{nat_tests}
+use Rattle.std.proofs.lemmas.List.{flat_map_more}
+use Rattle.std.proofs.lemmas.List.Recursion.{is_count_by}
+use Rattle.std.proofs.lemmas.List.Sums.{sum_by-cons, sum_by-append}
 use Rattle.network.specs.Places.{count_in, piece_of, standing}
 use Rattle.pieces.specs.Parts.{has}
 use Rattle.pieces.specs.declared.names.Train.{Train}
 use Rattle.pieces.specs.declared.piece.Piece.{Piece}
-use Rattle.std.proofs.lemmas.Bool.{cases_eq, eq-eqb, ne_eqb}
+use Rattle.std.proofs.lemmas.Bool.{eq-eqb, ne_eqb}
 
 -- ---- the pieces that a journal gives to j, and takes from j, in order
 
 abbrev pub given_of : ℕ → Record → List Piece
-given_of j (Opened t) = []
-given_of j (Closed t) = []
-given_of j (Sold n p) = []
-given_of j (Undone n) = []
 given_of j (Given to n p) = cond (eqb j to.0) (p ∷ []) []
-given_of j (Taken from n p) = []
-given_of j (Heard from n) = []
+given_of j e = []
 
 abbrev pub taken_of : ℕ → Record → List Piece
-taken_of j (Opened t) = []
-taken_of j (Closed t) = []
-taken_of j (Sold n p) = []
-taken_of j (Undone n) = []
-taken_of j (Given to n p) = []
 taken_of j (Taken from n p) = cond (eqb j from.0) (p ∷ []) []
-taken_of j (Heard from n) = []
+taken_of j e = []
 
-unfoldable pub given_to : ℕ → List Record → List Piece
-given_to j [] = []
-given_to j (e ∷ es) = given_of j e ++ given_to j es
+abbrev pub given_to : ℕ → List Record → List Piece
+given_to j = flat_map (given_of j)
 
-unfoldable pub taken_from : ℕ → List Record → List Piece
-taken_from j [] = []
-taken_from j (e ∷ es) = taken_of j e ++ taken_from j es
+abbrev pub taken_from : ℕ → List Record → List Piece
+taken_from j = flat_map (taken_of j)
 
-pub given_push : (k : ℕ) (es : List Record) (e : Record) → given_to k (es ++ e ∷ []) ≡ given_to k es ++ given_of k e
-unfolding given_to
-given_push k [] e = append-nil (given_of k e)
-given_push k (x ∷ es) e = ap (λ l. given_of k x ++ l) (given_push k es e) ∙ sym (append_assoc (given_of k x) (given_to k es) (given_of k e))
+-- a record more
+pub flat_push : {X A : Type 0} (f : X → List A) (xs : List X) (x : X) → flat_map f (xs ++ x ∷ []) ≡ flat_map f xs ++ f x
+flat_push f xs x = sym (flat_map_more f [] xs x)
 
-pub taken_push : (k : ℕ) (es : List Record) (e : Record) → taken_from k (es ++ e ∷ []) ≡ taken_from k es ++ taken_of k e
-unfolding taken_from
-taken_push k [] e = append-nil (taken_of k e)
-taken_push k (x ∷ es) e = ap (λ l. taken_of k x ++ l) (taken_push k es e) ∙ sym (append_assoc (taken_of k x) (taken_from k es) (taken_of k e))
-
-pub standing_push : (xs : List Sale) (p : Piece) → standing (xs ++ Stands p ∷ []) ≡ standing xs ++ p ∷ []
+pub standing_push : (xs : List (Option Piece)) (p : Piece) → standing (xs ++ Some p ∷ []) ≡ standing xs ++ p ∷ []
 unfolding standing
 standing_push [] p = refl
 standing_push (x ∷ xs) p = ap (λ l. piece_of x ++ l) (standing_push xs p) ∙ sym (append_assoc (piece_of x) (standing xs) (p ∷ []))
 
 -- tickets that do not stand have no pieces
-pub standing_trimmed : (xs : List Sale) → standing (trimmed xs) ≡ standing xs
+pub standing_trimmed : (xs : List (Option Piece)) → standing (trimmed xs) ≡ standing xs
 unfolding standing
 standing_trimmed [] = refl
-standing_trimmed (Stands p ∷ xs) = refl
-standing_trimmed (Returned ∷ xs) = standing_trimmed xs
+standing_trimmed (Some p ∷ xs) = refl
+standing_trimmed (None ∷ xs) = standing_trimmed xs
 
 module _ (t : Train) (s u : ℕ) where
   -- 1 if a piece has the stretch, else 0
@@ -72,17 +57,15 @@ module _ (t : Train) (s u : ℕ) where
   unfolding count_in
   count_nil = refl
 
-  pub count_cons : (p : Piece) (ps : List Piece) → count_in t s u (p ∷ ps) ≡ one p + count_in t s u ps
+  count_is : (ps : List Piece) → count_in t s u ps ≡ sum_by one ps
   unfolding count_in
-  count_cons p ps = go (has t.0 s u p)
-    where
-      go : (b : Bool) → cond b (1 + count_in t s u ps) (count_in t s u ps) ≡ cond b 1 0 + count_in t s u ps
-      go true = refl
-      go false = omega arith
+  count_is ps = is_count_by (count_in t s u) (has t.0 s u) refl (λ _ _. refl) ps
+
+  pub count_cons : (p : Piece) (ps : List Piece) → count_in t s u (p ∷ ps) ≡ one p + count_in t s u ps
+  count_cons p ps = omega (arith, count_is (p ∷ ps), count_is ps, sum_by-cons one p ps)
 
   pub count_append : (xs ys : List Piece) → count_in t s u (xs ++ ys) ≡ count_in t s u xs + count_in t s u ys
-  count_append [] ys = omega (arith, count_nil)
-  count_append (x ∷ xs) ys = omega (arith, count_cons x (xs ++ ys), count_cons x xs, count_append xs ys)
+  count_append xs ys = omega (arith, count_is (xs ++ ys), count_is xs, count_is ys, sum_by-append one xs ys)
 
   pub count_single : (p : Piece) → count_in t s u (p ∷ []) ≡ one p
   count_single p = omega (arith, count_cons p [], count_nil)
@@ -91,11 +74,11 @@ module _ (t : Train) (s u : ℕ) where
   count_push xs p = omega (arith, count_append xs (p ∷ []), count_single p)
 
   -- a ticket that stands is returned
-  pub count_returned : (xs : List Sale) (a : ℕ) (p : Piece) → get_or xs a Returned ≡ Stands p → count_in t s u (standing xs) ≡ one p + count_in t s u (standing (set xs a Returned))
+  pub count_returned : (xs : List (Option Piece)) (a : ℕ) (p : Piece) → get_or xs a None ≡ Some p → count_in t s u (standing xs) ≡ one p + count_in t s u (standing (set xs a None))
   unfolding standing
-  count_returned [] a p e = let z : ◌≡◌ {A = ℕ} 0 1 = cc in absurd (omega arith)
+  count_returned [] a p e = cc
   count_returned (x ∷ xs) zero p e = rw e (omega (arith, count_cons p (standing xs)))
-  count_returned (x ∷ xs) (suc a) p e = omega (arith, count_returned xs a p e, count_append (piece_of x) (standing xs), count_append (piece_of x) (standing (set xs a Returned)))
+  count_returned (x ∷ xs) (suc a) p e = omega (arith, count_returned xs a p e, count_append (piece_of x) (standing xs), count_append (piece_of x) (standing (set xs a None)))
 
   -- what one record gives to one station, over all stations
   pub count_to : (n k : ℕ) (p : Piece) → k < n → sum_to n (λ j. count_in t s u (cond (eqb j k) (p ∷ []) [])) ≡ one p
@@ -107,22 +90,23 @@ module _ (t : Train) (s u : ℕ) where
   one_other p d = rw (ne_eqb t.0 p.train.0 d) refl
 
   -- the tickets of a train are forgotten, those of another are not
-  pub count_forgotten : (z : Train) (xs : List Sale) → (t.0 ≡ z.0 → ⊥) → count_in t s u (standing (map (forgotten z) xs)) ≡ count_in t s u (standing xs)
+  pub count_forgotten : (z : Train) (xs : List (Option Piece)) → count_in t s u (standing (map (forgotten z) xs)) ≡ cond (eqb t.0 z.0) 0 (count_in t s u (standing xs))
   unfolding standing
-  count_forgotten z [] d = refl
-  count_forgotten z (Returned ∷ xs) d = count_forgotten z xs d
-  count_forgotten z (Stands p ∷ xs) d = go (cases_eq z.0 p.train.0) (count_forgotten z xs d)
-    where
-      go : (z.0 ≡ p.train.0) ⊎ (z.0 ≡ p.train.0 → ⊥) → count_in t s u (standing (map (forgotten z) xs)) ≡ count_in t s u (standing xs) → count_in t s u (piece_of (forgotten z (Stands p)) ++ standing (map (forgotten z) xs)) ≡ count_in t s u (p ∷ standing xs)
-      go (inl e) ih = rw (eq-eqb z.0 p.train.0 e) (omega (arith, ih, count_cons p (standing xs), one_other p (λ f. d (f ∙ sym e))))
-      go (inr n) ih = rw (ne_eqb z.0 p.train.0 n) (omega (arith, ih, count_cons p (standing xs), count_cons p (standing (map (forgotten z) xs))))
+  count_forgotten z [] = grind (arith, nat_tests, count_nil)
+  count_forgotten z (None ∷ xs) = count_forgotten z xs
+  count_forgotten z (Some p ∷ xs) = grind (arith, nat_tests, count_forgotten z xs, count_cons p (standing xs), count_cons p (standing (map (forgotten z) xs)))
 
-  pub count_forgotten_all : (z : Train) (xs : List Sale) → t.0 ≡ z.0 → count_in t s u (standing (map (forgotten z) xs)) ≡ 0
-  unfolding standing
-  count_forgotten_all z [] d = count_nil
-  count_forgotten_all z (Returned ∷ xs) d = count_forgotten_all z xs d
-  count_forgotten_all z (Stands p ∷ xs) d = go (cases_eq z.0 p.train.0) (count_forgotten_all z xs d)
-    where
-      go : (z.0 ≡ p.train.0) ⊎ (z.0 ≡ p.train.0 → ⊥) → count_in t s u (standing (map (forgotten z) xs)) ≡ 0 → count_in t s u (piece_of (forgotten z (Stands p)) ++ standing (map (forgotten z) xs)) ≡ 0
-      go (inl e) ih = rw (eq-eqb z.0 p.train.0 e) ih
-      go (inr n) ih = rw (ne_eqb z.0 p.train.0 n) (omega (arith, ih, count_cons p (standing (map (forgotten z) xs)), one_other p (λ f. n (sym d ∙ f))))
+  -- what each of a row of lists has, and what is added to each
+  pub count_rows : (n : ℕ) (f g h : ℕ → List Piece) → ((k : ℕ) → h k ≡ f k ++ g k) → sum_to n (λ k. count_in t s u (h k)) ≡ sum_to n (λ k. count_in t s u (f k)) + sum_to n (λ k. count_in t s u (g k))
+  count_rows n f g h e =
+      sum_cong n (λ k. count_in t s u (h k)) (λ k. count_in t s u (f k) + count_in t s u (g k)) (λ k _. ap (count_in t s u) (e k) ∙ count_append (f k) (g k)) ∙ sum_add n (λ k. count_in t s u (f k)) (λ k. count_in t s u (g k))
+
+  -- what a journal gives to all stations, and takes from all
+  abbrev pub given_by : ℕ → List Record → ℕ
+  given_by n es = sum_to n (λ k. count_in t s u (given_to k es))
+
+  abbrev pub taken_by : ℕ → List Record → ℕ
+  taken_by n es = sum_to n (λ k. count_in t s u (taken_from k es))
+
+  pub count_more : (n : ℕ) (f : ℕ → Record → List Piece) (es : List Record) (e : Record) → sum_to n (λ k. count_in t s u (flat_map (f k) (es ++ e ∷ []))) ≡ sum_to n (λ k. count_in t s u (flat_map (f k) es)) + sum_to n (λ k. count_in t s u (f k e))
+  count_more n f es e = count_rows n (λ k. flat_map (f k) es) (λ k. f k e) (λ k. flat_map (f k) (es ++ e ∷ [])) (λ k. flat_push (f k) es e)

@@ -1,11 +1,11 @@
 -- What a station holds of a stretch, when its words and its slots are written.
 -- Assumes nothing.
-use Rattle.std.proofs.Common.{◌≡◌, ℕ, ◌+◌, ◌<◌, ◌≤◌, Bool, true, false, cond, not, ◌&&◌, ◌||◌, ltb, leb, ◌⊎◌, List, length, get_or, set, sym, refl, ap, ◌∙◌, ap₂, inl, inr, ⊎_elim, arith}
+use Rattle.std.proofs.Common.{◌≡◌, ℕ, ◌+◌, ◌<◌, ◌≤◌, Bool, true, false, cond, not, ◌&&◌, ◌||◌, ltb, ◌⊎◌, List, length, get_or, set, sym, refl, ap, ◌∙◌, ap₂, inl, inr, ⊎_elim, arith, Some, None, Option}
 use Rattle.state.specs.Changes.{with_words, taken_out, put_back}
-use Rattle.state.specs.States.{State, same, place, is_open, holds_piece}
-use Rattle.state.specs.declared.record.Slot.TheVariants.{Free, Open}
+use Rattle.state.specs.States.{State, place, is_open, holds_piece}
 use Rattle.network.proofs.Count.{one}
-use Rattle.network.proofs.Slots.{place_le, place_reads, differ, Unique}
+use Rattle.network.proofs.Lists.{cases_two}
+use Rattle.network.proofs.Slots.{place_le, place_reads, train_is, Unique}
 use Rattle.network.specs.Places.{holding}
 use Rattle.pieces.proofs.Bitwise.{holds_less, holds_plus, holds_past, covered_decides}
 use Rattle.pieces.proofs.Places.{word_set, word_set_other, seated_in, seated_out}
@@ -13,8 +13,9 @@ use Rattle.pieces.specs.Memory.{at, word_at, seated}
 use Rattle.pieces.specs.Stretches.{holds, within, covered, less, plus}
 use Rattle.pieces.specs.declared.names.Train.{Train}
 use Rattle.pieces.specs.declared.piece.Piece.{Piece}
+use Rattle.std.proofs.lemmas.Bool.Decides.{nat_tests}
 use Rattle.std.proofs.lemmas.List.{get_or_past}
-use Rattle.std.proofs.lemmas.Bool.{cases_eq, cases_lt, eq-eqb, ne_eqb, leb-true, ltb-true, lt-ltb, le-ltb, and_parts, true≢false, false≢true}
+use Rattle.std.proofs.lemmas.Bool.{cond_both, ltb-false, cases_eq, cases_lt, ltb-true, lt-ltb, true≢false}
 
 -- ---- bits
 
@@ -22,31 +23,21 @@ abbrev pub bit : ℕ → ℕ → ℕ
 bit w k = cond (holds w k) 1 0
 
 apart : (x y : Bool) → (y ≡ true → x ≡ true) → cond {A = ℕ} x 1 0 ≡ cond (x && not y) 1 0 + cond y 1 0
-apart true true h = refl
-apart true false h = refl
-apart false true h = absurd (false≢true (h refl))
-apart false false h = refl
+apart x y h = grind arith
 
 meet : (x y : Bool) → cond {A = ℕ} x 1 0 + cond y 1 0 ≤ 1 → cond {A = ℕ} (x || y) 1 0 ≡ cond x 1 0 + cond y 1 0
-meet true true h = absurd (omega (arith, h))
-meet true false h = refl
-meet false true h = refl
-meet false false h = refl
+meet x y h = grind arith
 
 pub bit_less : (w a b k : ℕ) → a ≤ b → covered w a b ≡ true → bit w k ≡ bit (less w a b) k + cond (within a b k) 1 0
 bit_less w a b k h c =
     rw (holds_less w a b k h)
-    (apart (holds w k) (within a b k) (λ e. let p = and_parts (leb a k) (ltb k b) e in (covered_decides w a b).0 c k (leb-true a k p.0) (ltb-true k b p.1)))
+    (apart (holds w k) (within a b k) (λ e. (covered_decides w a b).0 c k (grind (arith, nat_tests)) (grind (arith, nat_tests))))
 
 pub bit_plus : (w a b k : ℕ) → a ≤ b → bit w k + cond (within a b k) 1 0 ≤ 1 → bit (plus w a b) k ≡ bit w k + cond (within a b k) 1 0
 bit_plus w a b k h l = rw (holds_plus w a b k h) (meet (holds w k) (within a b k) l)
 
 pub bit_zero : (k : ℕ) → bit 0 k ≡ 0
 bit_zero k = rw (holds_past 0 0 k (omega arith) (omega arith)) refl
-
-pub bit_le : (b : Bool) → cond {A = ℕ} b 1 0 ≤ 1
-bit_le true = omega arith
-bit_le false = omega arith
 
 -- ---- words at places
 
@@ -55,36 +46,36 @@ word_past : (ws : List ℕ) (k s : ℕ) → length ws ≡ 25600 → 64 ≤ k →
 word_past ws k s e l = get_or_past ws (at k s) 0 (omega arith)
 
 pub seated_bit : (n w s u : ℕ) → n ≤ 400 → s < 400 → bit (get_or (seated n w) s 0) u ≡ cond (ltb s n) (bit w u) 0
-seated_bit n w s u l ls = go (cases_lt s n)
-  where
-    go : (s < n) ⊎ (n ≤ s) → bit (get_or (seated n w) s 0) u ≡ cond (ltb s n) (bit w u) 0
-    go (inl h) = rw (lt-ltb s n h, seated_in n w s h) refl
-    go (inr h) = rw (le-ltb s n h, seated_out n w s h) (bit_zero u)
+seated_bit n w s u l ls = cond_both (ltb s n) (bit w u) 0 (λ v. bit (get_or (seated n w) s 0) u ≡ v) (λ e. rw (seated_in n w s (ltb-true s n e)) refl) (λ e. rw (seated_out n w s (ltb-false s n e)) (bit_zero u))
 
 -- ---- a station's state
 
-pub record Sound (x : State) : Type 0 where
-  pub slots : length x.slots ≡ 64
-  pub words : length x.words ≡ 25600
-  pub unique : Unique x.slots
+pub record Seats (ss : List (Option Train)) (ws : List ℕ) : Type 0 where
+  pub slots : length ss ≡ 64
+  pub words : length ws ≡ 25600
+  pub unique : Unique ss
+
+abbrev pub Sound : State → Type 0
+Sound x = Seats x.slots x.words
 
 pub open_lt : (x : State) (t : Train) → is_open x t ≡ true → place x t < length x.slots
 open_lt x t o = ltb-true (place x t) (length x.slots) o
 
 pub shut_is : (x : State) (t : Train) → is_open x t ≡ false → place x t ≡ length x.slots
-shut_is x t o = ⊎_elim (λ l. absurd (true≢false (sym (lt-ltb _ _ l) ∙ o))) (λ l. omega (arith, place_le x.slots (Open t))) (cases_lt (place x t) (length x.slots))
+shut_is x t o = ⊎_elim (λ l. absurd (true≢false (sym (lt-ltb _ _ l) ∙ o))) (λ l. omega (arith, place_le x.slots (Some t))) (cases_lt (place x t) (length x.slots))
 
 -- two trains, one of them open, have two places
 pub place_apart : (x : State) (t z : Train) → is_open x z ≡ true → (t.0 ≡ z.0 → ⊥) → place x t ≡ place x z → ⊥
 place_apart x t z o d e =
     let l = open_lt x z o in
-    let h = place_reads x.slots (Open z) l in
-    true≢false (sym (place_reads x.slots (Open t) (omega arith)) ∙ ap (λ (k : ℕ). same (get_or x.slots k Free) (Open t)) e ∙ differ _ z t h d)
+    let f : Some t ≡ Some z = sym (place_reads x.slots (Some t) (omega arith)) ∙ ap (λ (k : ℕ). get_or x.slots k None) e ∙ place_reads x.slots (Some z) l in
+    let g : t ≡ z = cc in
+    d (ap (λ (y : Train). y.0) g)
 
 module _ (x : State) (sound : Sound x) (p : Piece) (o : is_open x p.train ≡ true) (seat : p.seat.0 < 400) where
   pub wrote_here : (t : Train) (s u v : ℕ) → t.0 ≡ p.train.0 → s ≡ p.seat.0 → holding t s u (with_words x (set x.words (at (place x p.train) p.seat.0) v)) ≡ holds v u
   wrote_here t s u v e f =
-      ap₂ (λ (z : Train) (r : ℕ). holds (word_at (set x.words (at (place x p.train) p.seat.0) v) (place x z) r) u) (ap (λ (n : ℕ). record { 0 = n }) e) f
+      ap₂ (λ (z : Train) (r : ℕ). holds (word_at (set x.words (at (place x p.train) p.seat.0) v) (place x z) r) u) (train_is e) f
       ∙ ap (λ (w : ℕ). holds w u) (word_set x.words (place x p.train) p.seat.0 v (omega (arith, open_lt x p.train o, sound.slots, sound.words)))
 
   pub wrote_there : (t : Train) (s u v : ℕ) → s < 400 → ((t.0 ≡ p.train.0) × (s ≡ p.seat.0) → ⊥) → holding t s u (with_words x (set x.words (at (place x p.train) p.seat.0) v)) ≡ holding t s u x
@@ -99,43 +90,33 @@ module _ (t : Train) (s u : ℕ) (l : s < 400) where
   abbrev pub in_word : State → ℕ
   in_word x = cond (holding t s u x) 1 0
 
-  one_here : (p : Piece) → t.0 ≡ p.train.0 → s ≡ p.seat.0 → one t s u p ≡ cond (within p.from.0 p.to.0 u) 1 0
-  one_here p e f = rw (eq-eqb t.0 p.train.0 e, eq-eqb s p.seat.0 f) refl
+  one_here : (p : Piece) → t.0 ≡ p.train.0 → s ≡ p.seat.0 → one t s u p ≡ cond (within p.trip.from.0 p.trip.to.0 u) 1 0
+  one_here p e f = grind (arith, nat_tests)
 
   one_there : (p : Piece) → ((t.0 ≡ p.train.0) × (s ≡ p.seat.0) → ⊥) → one t s u p ≡ 0
-  one_there p d = ⊎_elim (λ e. rw (eq-eqb t.0 p.train.0 e, ne_eqb s p.seat.0 (λ f. d (e, f))) refl) (λ e. rw (ne_eqb t.0 p.train.0 e) refl) (cases_eq t.0 p.train.0)
+  one_there p d = grind (arith, nat_tests)
 
-  same_word : (x : State) (p : Piece) → t.0 ≡ p.train.0 → s ≡ p.seat.0 → holding t s u x ≡ holds (word_at x.words (place x p.train) p.seat.0) u
-  same_word x p e f = ap₂ (λ (z : Train) (r : ℕ). holds (word_at x.words (place x z) r) u) (ap (λ (n : ℕ). record { 0 = n }) e) f
+  pub same_word : (x : State) (p : Piece) → t.0 ≡ p.train.0 → s ≡ p.seat.0 → holding t s u x ≡ holds (word_at x.words (place x p.train) p.seat.0) u
+  same_word x p e f = ap₂ (λ (z : Train) (r : ℕ). holds (word_at x.words (place x z) r) u) (train_is e) f
 
-  pub both : (p : Piece) → ((t.0 ≡ p.train.0) × (s ≡ p.seat.0)) ⊎ ((t.0 ≡ p.train.0) × (s ≡ p.seat.0) → ⊥)
-  both p = ⊎_elim (λ e. ⊎_elim (λ f. inl (e, f)) (λ d. inr (λ (g, h). d h)) (cases_eq s p.seat.0)) (λ d. inr (λ (g, h). d g)) (cases_eq t.0 p.train.0)
+  -- what holds where the word of p is written, and where nothing is, holds
+  word_ind : (x : State) (p : Piece) → Sound x → is_open x p.train ≡ true → p.seat.0 < 400 → (v : ℕ) (P : (was is here : ℕ) → Type 0) → P (bit (word_at x.words (place x p.train) p.seat.0) u) (bit v u) (cond (within p.trip.from.0 p.trip.to.0 u) 1 0) → ((m : ℕ) → P m m 0) →
+      P (in_word x) (in_word (with_words x (set x.words (at (place x p.train) p.seat.0) v))) (one t s u p)
+  word_ind x p sound o b v P here there = go (cases_two t.0 p.train.0 s p.seat.0)
+    where
+      go : ((t.0 ≡ p.train.0) × (s ≡ p.seat.0)) ⊎ ((t.0 ≡ p.train.0) × (s ≡ p.seat.0) → ⊥) → P (in_word x) (in_word (with_words x (set x.words (at (place x p.train) p.seat.0) v))) (one t s u p)
+      go (inl (e, f)) = rw (same_word x p e f, wrote_here x sound p o b t s u v e f, one_here p e f) here
+      go (inr d) = rw (wrote_there x sound p o b t s u v l d, one_there p d) (there (in_word x))
 
   pub in_out : (x : State) (p : Piece) → Sound x → is_open x p.train ≡ true → p.seat.0 < 400 → holds_piece x p ≡ true → in_word x ≡ in_word (taken_out x p) + one t s u p
-  in_out x p sound o b h = go (both p)
-    where
-      w : ℕ
-      w = word_at x.words (place x p.train) p.seat.0
-
-      c : covered w p.from.0 p.to.0 ≡ true
-      c = (and_parts (ltb p.seat.0 400) (covered w p.from.0 p.to.0) h).1
-
-      go : ((t.0 ≡ p.train.0) × (s ≡ p.seat.0)) ⊎ ((t.0 ≡ p.train.0) × (s ≡ p.seat.0) → ⊥) → in_word x ≡ in_word (taken_out x p) + one t s u p
-      go (inl (e, f)) =
-          rw (same_word x p e f, wrote_here x sound p o b t s u (less w p.from.0 p.to.0) e f, one_here p e f) (bit_less w p.from.0 p.to.0 u (omega (arith, p.ordered)) c)
-      go (inr d) = rw (wrote_there x sound p o b t s u (less w p.from.0 p.to.0) l d, one_there p d) (omega arith)
+  in_out x p sound o b h =
+      let w = word_at x.words (place x p.train) p.seat.0 in
+      word_ind x p sound o b (less w p.trip.from.0 p.trip.to.0) (λ m k c. m ≡ k + c) (bit_less w p.trip.from.0 p.trip.to.0 u (omega (arith, p.trip.ordered)) (grind (arith, nat_tests))) (λ m. omega arith)
 
   pub in_back : (x : State) (p : Piece) → Sound x → is_open x p.train ≡ true → p.seat.0 < 400 → in_word x + one t s u p ≤ 1 → in_word (put_back x p) ≡ in_word x + one t s u p
-  in_back x p sound o b h = go (both p)
-    where
-      w : ℕ
-      w = word_at x.words (place x p.train) p.seat.0
-
-      go : ((t.0 ≡ p.train.0) × (s ≡ p.seat.0)) ⊎ ((t.0 ≡ p.train.0) × (s ≡ p.seat.0) → ⊥) → in_word (put_back x p) ≡ in_word x + one t s u p
-      go (inl (e, f)) =
-          let g = rw (same_word x p e f, one_here p e f) at h in
-          rw (same_word x p e f, wrote_here x sound p o b t s u (plus w p.from.0 p.to.0) e f, one_here p e f) (bit_plus w p.from.0 p.to.0 u (omega (arith, p.ordered)) g)
-      go (inr d) = rw (wrote_there x sound p o b t s u (plus w p.from.0 p.to.0) l d, one_there p d) (omega arith)
+  in_back x p sound o b =
+      let w = word_at x.words (place x p.train) p.seat.0 in
+      word_ind x p sound o b (plus w p.trip.from.0 p.trip.to.0) (λ m k c. m + c ≤ 1 → k ≡ m + c) (bit_plus w p.trip.from.0 p.trip.to.0 u (omega (arith, p.trip.ordered))) (λ m _. omega arith)
 
   -- a train that is not open has no words
   pub in_shut : (x : State) → Sound x → is_open x t ≡ false → in_word x ≡ 0

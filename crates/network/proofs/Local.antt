@@ -1,18 +1,17 @@
 -- What holds of a station by itself, whatever its journal.
 -- Assumes nothing.
-use Rattle.std.proofs.Common.{◌≡◌, ℕ, ◌+◌, ◌-◌, ◌<◌, ◌≤◌, max, Bool, true, false, not, ◌&&◌, ◌||◌, eqb, ltb, List, [], ◌∷◌, ◌++◌, length, drop, is_some, Some, None, Option, sym, refl, ap, ◌∙◌, arith, length-append, drop-drop}
-use lib.Seq.{drop-append-le}
-use Rattle.giving.specs.Channels.{Chan, gave, took, heard_to, line, other}
+use Rattle.std.proofs.Common.{◌≡◌, ℕ, ◌+◌, ◌-◌, ◌<◌, ◌≤◌, max, true, false, ◌||◌, eqb, List, [], ◌∷◌, ◌++◌, length, drop, is_some, Some, None, Option, sym, refl, ap, ◌∙◌, arith, length-append, drop-drop}
+use Rattle.std.proofs.lemmas.List.{drop-append-le}
+use Rattle.giving.specs.Channels.{Chan, gave, took, heard_to, line}
 use Rattle.giving.specs.declared.ids.Number.{Number}
 use Rattle.giving.specs.declared.ids.StationId.{StationId}
 use Rattle.giving.specs.declared.ids.Ticket.{Ticket}
 use Rattle.state.specs.Changes.{fits}
-use Rattle.state.specs.States.{State, place_of, is_open, known, openable, holds_piece, tickets_left, sold}
+use Rattle.state.specs.States.{State, place_of, is_open, known, openable, holds_piece}
 use Rattle.state.specs.declared.record.Record.TheVariants.{Opened, Sold, Given, Taken, Heard}
-use Rattle.state.specs.declared.record.Slot.TheVariants.{Free}
 use Rattle.pieces.specs.declared.names.Train.{Train}
 use Rattle.pieces.specs.declared.piece.Piece.{Piece}
-use Rattle.std.proofs.lemmas.Bool.{eq-eqb, eqb-true, ltb-true, and_parts, true≢false, false≢true}
+use Rattle.std.proofs.lemmas.Bool.{both_ways, eq-eqb, false≢true}
 use Rattle.std.proofs.lemmas.Bool.Decides.{nat_tests}
 use Rattle.timetable.specs.Rows.{Table, listed}
 use Rattle.timetable.specs.declared.row.Row.{Row}
@@ -54,38 +53,21 @@ pub record Listed (o : Option Row) (p : Piece) : Type 0 where
   pub row : Row
   pub is : o ≡ Some row
   pub seat : p.seat.0 < row.seats
-  pub to : p.to.0 < row.stops
+  pub to : p.trip.to.0 < row.stops
 
 pub listed_row : (o : Option Row) (p : Piece) → listed o p ≡ true → Listed o p
 listed_row None p e = absurd (false≢true e)
-listed_row (Some r) p e = let q = and_parts (ltb p.seat.0 r.seats) (ltb p.to.0 r.stops) e in record { row = r; is = refl; seat = ltb-true _ _ q.0; to = ltb-true _ _ q.1 }
+listed_row (Some r) p e = record { row = r; is = refl; seat = grind (arith, nat_tests); to = grind (arith, nat_tests) }
 
-pub not_true : (b : Bool) → not b ≡ true → b ≡ false
-not_true true e = absurd (false≢true e)
-not_true false e = refl
-
-pub or_false : (a b : Bool) → (a || b) ≡ false → (a ≡ false) × (b ≡ false)
-or_false true b e = absurd (true≢false e)
-or_false false b e = (refl, e)
-
-pub other_lt : (me : ℕ) (cs : List Chan) (k : ℕ) → other me cs k ≡ true → k < length cs
-other_lt me cs k e = ltb-true k (length cs) (and_parts (ltb k (length cs)) (not (eqb k me)) e).0
-
-pub free_lt : (x : State) → openable x ≡ true → place_of x.slots Free < length x.slots
-free_lt x e = ltb-true _ _ (and_parts (ltb (place_of x.slots Free) (length x.slots)) (ltb (length x.closed) 65536) e).0
+pub free_lt : (x : State) → openable x ≡ true → place_of x.slots None < length x.slots
+free_lt x e = grind (arith, nat_tests)
 
 module _ (tb : Table) (x : State) where
-  pub fits_opened : (t : Train) → fits tb x (Opened t) ≡ true → (is_some (tb t.0) ≡ true) × (known x t ≡ false) × (place_of x.slots Free < length x.slots)
-  fits_opened t f =
-      let (a, b) = and_parts (is_some (tb t.0)) (not (known x t) && openable x) f in
-      let (c, d) = and_parts (not (known x t)) (openable x) b in
-      (a, not_true (known x t) c, free_lt x d)
+  pub fits_opened : (t : Train) → fits tb x (Opened t) ≡ true → (is_some (tb t.0) ≡ true) × (known x t ≡ false) × (place_of x.slots None < length x.slots)
+  fits_opened t f = grind (arith, nat_tests)
 
   pub fits_sold : (n : Ticket) (p : Piece) → fits tb x (Sold n p) ≡ true → (listed (tb p.train.0) p ≡ true) × (is_open x p.train ≡ true) × (holds_piece x p ≡ true)
-  fits_sold n p f =
-      let (a, b) = and_parts (listed (tb p.train.0) p) (is_open x p.train && (holds_piece x p && (tickets_left x && eqb n.0 (sold x + 1)))) f in
-      let (c, d) = and_parts (is_open x p.train) (holds_piece x p && (tickets_left x && eqb n.0 (sold x + 1))) b in
-      (a, c, (and_parts (holds_piece x p) (tickets_left x && eqb n.0 (sold x + 1)) d).0)
+  fits_sold n p f = grind (arith, nat_tests)
 
   pub record FitsGiven (to : StationId) (n : Number) (p : Piece) : Type 0 where
     pub listed : listed (tb p.train.0) p ≡ true
@@ -95,10 +77,7 @@ module _ (tb : Table) (x : State) where
     pub away : x.me ≡ to.0 → ⊥
 
   pub fits_given : (to : StationId) (n : Number) (p : Piece) → fits tb x (Given to n p) ≡ true → FitsGiven to n p
-  fits_given to n p f = record { listed = grind (arith, nat_tests); «open» = grind (arith, nat_tests); held = grind (arith, nat_tests); there = grind (arith, nat_tests); away = λ e. apart (eqb to.0 x.me) (eq-eqb to.0 x.me (sym e)) (grind (arith, nat_tests)) }
-    where
-      apart : (b : Bool) → b ≡ true → b ≡ false → ⊥
-      apart b e g = true≢false (sym e ∙ g)
+  fits_given to n p f = record { listed = grind (arith, nat_tests); «open» = grind (arith, nat_tests); held = grind (arith, nat_tests); there = grind (arith, nat_tests); away = λ e. both_ways (eqb to.0 x.me) (grind (arith, nat_tests)) (eq-eqb to.0 x.me (sym e)) }
 
   pub record FitsTaken (from : StationId) (n : Number) (p : Piece) : Type 0 where
     pub listed : listed (tb p.train.0) p ≡ true
@@ -107,11 +86,7 @@ module _ (tb : Table) (x : State) where
     pub room : (known x p.train || openable x) ≡ true
 
   pub fits_taken : (from : StationId) (n : Number) (p : Piece) → fits tb x (Taken from n p) ≡ true → FitsTaken from n p
-  fits_taken from n p f =
-      let (a, b) = and_parts (listed (tb p.train.0) p) (other x.me x.channels from.0 && (eqb n.0 ((line x.channels from.0).taken + 1) && (known x p.train || openable x))) f in
-      let (c, d) = and_parts (other x.me x.channels from.0) (eqb n.0 ((line x.channels from.0).taken + 1) && (known x p.train || openable x)) b in
-      let (g, h) = and_parts (eqb n.0 ((line x.channels from.0).taken + 1)) (known x p.train || openable x) d in
-      record { listed = a; there = other_lt x.me x.channels from.0 c; next = eqb-true _ _ g; room = h }
+  fits_taken from n p f = grind (arith, nat_tests)
 
   pub fits_heard : (from : StationId) (n : Number) → fits tb x (Heard from n) ≡ true → (from.0 < length x.channels) × (n.0 ≤ (line x.channels from.0).given)
-  fits_heard from n f = (grind (arith, nat_tests), grind (arith, nat_tests))
+  fits_heard from n f = grind (arith, nat_tests)

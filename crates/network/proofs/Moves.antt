@@ -1,161 +1,130 @@
 -- What a record that fits makes of a station: its lines, and its stock of a stretch.
 -- Assumes nothing.
-use Rattle.std.proofs.Common.{◌≡◌, ℕ, ◌-◌, ◌<◌, ◌≤◌, max, Bool, true, false, cond, ◌||◌, eqb, List, ◌++◌, length, set, is_some, Some, None, Option, sym, refl, ap, ◌∙◌, subst, ⊎_elim, append-nil, arith, length-set, get_or-set_other, get_or-set_same}
-use Rattle.giving.specs.Channels.{Chan, fresh, gave, took, heard_to, line}
-use Rattle.state.specs.Changes.{apply, fits, put_back, opened, received, returned}
+use Rattle.std.proofs.Common.{◌≡◌, ℕ, ◌<◌, ◌≤◌, max, Bool, true, false, cond, ◌||◌, eqb, List, ◌++◌, length, set, is_some, Some, None, Option, refl, ap, ◌∙◌, append-nil, arith, length-set}
+use Rattle.giving.specs.Channels.{fresh}
+use Rattle.state.specs.Changes.{apply, fits, with_words, put_back, opened, received, returned}
 use Rattle.state.specs.States.{State, place_of, is_open, was_closed, known, openable, ticket_of}
 use Rattle.state.specs.declared.record.Record.{Record}
-use Rattle.state.specs.declared.record.Record.TheVariants.{Opened, Closed, Sold, Undone, Given, Taken, Heard}
-use Rattle.state.specs.declared.record.Sale.{Sale}
-use Rattle.state.specs.declared.record.Sale.TheVariants.{Stands, Returned}
-use Rattle.state.specs.declared.record.Slot.TheVariants.{Free}
+use Rattle.state.specs.declared.record.Record.TheVariants.{Opened, Closed, Undone, Given, Taken, Heard}
 use Rattle.network.proofs.Count.{given_of, taken_of}
 use Rattle.network.proofs.Held.{Sound}
-use Rattle.network.proofs.Local.{Line, line_gave, line_took, line_heard, Listed, listed_row, or_false, free_lt, fits_opened, fits_given, fits_taken, fits_heard}
+use Rattle.network.proofs.Lists.{set_ind}
+use Rattle.network.proofs.Local.{Line, line_gave, line_took, line_heard, Listed, listed_row, free_lt, fits_opened, fits_given, fits_taken, fits_heard}
 use Rattle.network.proofs.Trains.{opened_sound, closing_sound}
 use Rattle.network.specs.Worlds.{channel}
 use Rattle.pieces.specs.declared.names.Train.{Train}
 use Rattle.pieces.specs.declared.piece.Piece.{Piece}
-use Rattle.std.proofs.lemmas.Bool.{cases_eq, eq-eqb, ne_eqb}
+use Rattle.std.proofs.lemmas.Bool.{eq-eqb, ne_eqb, or_parts}
 use Rattle.timetable.specs.Rows.{Table, listed}
 use Rattle.timetable.specs.declared.row.Row.{Row}
 
 -- ---- a piece that comes
 
 -- what a received piece makes of a station, by what it knows of the train
-pub data Received (tb : Table) (x : State) (p : Piece) : Type 0 where
-  shut : was_closed x p.train ≡ true → received tb x p ≡ x → Received tb x p
-  there : was_closed x p.train ≡ false → is_open x p.train ≡ true → received tb x p ≡ put_back x p → Received tb x p
-  anew : (r : Row) → tb p.train.0 ≡ Some r → was_closed x p.train ≡ false → is_open x p.train ≡ false → place_of x.slots Free < length x.slots → received tb x p ≡ put_back (opened (Some r) p.train x) p → Received tb x p
+pub data Received (tb : Table) (x : State) (p : Piece) : State → Type 0 where
+  shut : was_closed x p.train ≡ true → Received tb x p x
+  there : was_closed x p.train ≡ false → is_open x p.train ≡ true → Received tb x p (put_back x p)
+  anew : (r : Row) → tb p.train.0 ≡ Some r → was_closed x p.train ≡ false → is_open x p.train ≡ false → place_of x.slots None < length x.slots → Received tb x p (put_back (opened (Some r) p.train x) p)
 
-pub received_by : (tb : Table) (x : State) (p : Piece) → listed (tb p.train.0) p ≡ true → (known x p.train || openable x) ≡ true → Received tb x p
+pub received_by : (tb : Table) (x : State) (p : Piece) → listed (tb p.train.0) p ≡ true → (known x p.train || openable x) ≡ true → Received tb x p (received tb x p)
 received_by tb x p a room = go (was_closed x p.train) refl (is_open x p.train) refl
   where
     row : Listed (tb p.train.0) p
     row = listed_row (tb p.train.0) p a
 
-    go : (b : Bool) → was_closed x p.train ≡ b → (c : Bool) → is_open x p.train ≡ c → Received tb x p
-    go true e c f = shut e (rw e refl)
-    go false e true f = there e f (rw (e, f) refl)
-    go false e false f =
-        anew row.row row.is e f (free_lt x (rw (e, f) at room)) (rw (e, f) (ap (λ o. put_back (opened o p.train x) p) row.is))
+    go : (b : Bool) → was_closed x p.train ≡ b → (c : Bool) → is_open x p.train ≡ c → Received tb x p (received tb x p)
+    go true e c f = rw e (shut e)
+    go false e true f = rw (e, f) (there e f)
+    go false e false f = rw (e, f, row.is) (anew row.row row.is e f (free_lt x (rw (e, f) at room)))
 
--- nothing else is touched
-received_keeps : {A : Type 0} (g : State → A) (tb : Table) (x : State) (p : Piece) → ((y : State) → g (put_back y p) ≡ g y) → ((r : Row) → g (opened (Some r) p.train x) ≡ g x) → g (received tb x p) ≡ g x
-received_keeps g tb x p back new = go (was_closed x p.train) (is_open x p.train) (tb p.train.0)
+-- y is x with other slots and words
+pub record Beside (x y : State) : Type 0 where
+  pub me : y.me ≡ x.me
+  pub closed : y.closed ≡ x.closed
+  pub tickets : y.tickets ≡ x.tickets
+  pub channels : y.channels ≡ x.channels
+
+pub opened_beside : (o : Option Row) (t : Train) (x : State) → Beside x (opened o t x)
+opened_beside None t x = record { me = refl; closed = refl; tickets = refl; channels = refl }
+opened_beside (Some r) t x = record { me = refl; closed = refl; tickets = refl; channels = refl }
+
+pub returned_beside : (y : Option Piece) (x : State) → Beside x (returned y x)
+returned_beside None x = record { me = refl; closed = refl; tickets = refl; channels = refl }
+returned_beside (Some p) x = record { me = refl; closed = refl; tickets = refl; channels = refl }
+
+pub received_beside : (tb : Table) (x : State) (p : Piece) → Beside x (received tb x p)
+received_beside tb x p = go (was_closed x p.train) (is_open x p.train)
   where
-    go : (b c : Bool) (o : Option Row) → g (cond b x (put_back (cond c x (opened o p.train x)) p)) ≡ g x
-    go true c o = refl
-    go false true o = back x
-    go false false None = back x
-    go false false (Some r) = back (opened (Some r) p.train x) ∙ new r
-
-pub received_lines : (tb : Table) (x : State) (p : Piece) → (received tb x p).channels ≡ x.channels
-received_lines tb x p = received_keeps (λ y. y.channels) tb x p (λ _. refl) (λ _. refl)
-
-pub received_me : (tb : Table) (x : State) (p : Piece) → (received tb x p).me ≡ x.me
-received_me tb x p = received_keeps (λ y. y.me) tb x p (λ _. refl) (λ _. refl)
-
-pub received_closed : (tb : Table) (x : State) (p : Piece) → (received tb x p).closed ≡ x.closed
-received_closed tb x p = received_keeps (λ y. y.closed) tb x p (λ _. refl) (λ _. refl)
-
-pub received_tickets : (tb : Table) (x : State) (p : Piece) → (received tb x p).tickets ≡ x.tickets
-received_tickets tb x p = received_keeps (λ y. y.tickets) tb x p (λ _. refl) (λ _. refl)
-
-opened_lines : (o : Option Row) (t : Train) (x : State) → (opened o t x).channels ≡ x.channels
-opened_lines None t x = refl
-opened_lines (Some r) t x = refl
-
-returned_lines : (y : Sale) (x : State) → (returned y x).channels ≡ x.channels
-returned_lines (Stands p) x = refl
-returned_lines Returned x = refl
+    go : (b c : Bool) → Beside x (cond b x (put_back (cond c x (opened (tb p.train.0) p.train x)) p))
+    go false false = let b = opened_beside (tb p.train.0) p.train x in record { me = b.me; closed = b.closed; tickets = b.tickets; channels = b.channels }
+    go _ _ = record { me = refl; closed = refl; tickets = refl; channels = refl }
 
 -- ---- the lines
 
 pub lines_next : (tb : Table) (x : State) (e : Record) → length (apply tb x e).channels ≡ length x.channels
-lines_next tb x (Opened t) = ap length (opened_lines (tb t.0) t x)
-lines_next tb x (Closed t) = refl
-lines_next tb x (Sold n p) = refl
-lines_next tb x (Undone n) = ap length (returned_lines (ticket_of x n.0) x)
+lines_next tb x (Opened t) = ap length (opened_beside (tb t.0) t x).channels
+lines_next tb x (Undone n) = ap length (returned_beside (ticket_of x n.0) x).channels
 lines_next tb x (Given to n p) = length-set x.channels to.0 _
-lines_next tb x (Taken from n p) = length-set (received tb x p).channels from.0 _ ∙ ap length (received_lines tb x p)
+lines_next tb x (Taken from n p) = length-set (received tb x p).channels from.0 _ ∙ ap length (received_beside tb x p).channels
 lines_next tb x (Heard from n) = length-set x.channels from.0 _
+lines_next tb x e = refl
 
--- one line is written
-module _ (cs : List Chan) (j : ℕ) (c : Chan) (l : j < length cs) (k : ℕ) where
-  at_line : (P : Chan → Type 0) → (k ≡ j → P c) → ((k ≡ j → ⊥) → P (line cs k)) → P (line (set cs j c) k)
-  at_line P f g = ⊎_elim (λ e. subst P (sym (ap (line (set cs j c)) e ∙ get_or-set_same cs j c fresh l)) (f e)) (λ d. subst P (sym (get_or-set_other cs j k c fresh d)) (g d)) (cases_eq k j)
-
+-- a line after a record, by what it was: of Given, Taken and Heard one line is written
 pub line_next : (tb : Table) (x : State) (e : Record) (k : ℕ) (gs ts : List Piece) → fits tb x e ≡ true → Line (channel x k) gs ts → Line (channel (apply tb x e) k) (gs ++ given_of k e) (ts ++ taken_of k e)
-line_next tb x (Opened t) k gs ts f l = rw (append-nil gs, append-nil ts, opened_lines (tb t.0) t x) l
-line_next tb x (Closed t) k gs ts f l = rw (append-nil gs, append-nil ts) l
-line_next tb x (Sold n p) k gs ts f l = rw (append-nil gs, append-nil ts) l
-line_next tb x (Undone n) k gs ts f l = rw (append-nil gs, append-nil ts, returned_lines (ticket_of x n.0) x) l
+line_next tb x (Opened t) k gs ts f l = rw (append-nil gs, append-nil ts, (opened_beside (tb t.0) t x).channels) l
+line_next tb x (Undone n) k gs ts f l = rw (append-nil gs, append-nil ts, (returned_beside (ticket_of x n.0) x).channels) l
 line_next tb x (Given to n p) k gs ts f l =
     rw (append-nil ts)
-    (at_line x.channels to.0 (gave (line x.channels to.0) p) (fits_given tb x to n p f).there k (λ c. Line c (gs ++ given_of k (Given to n p)) ts)
-    (λ e. rw (eq-eqb k to.0 e) (line_gave _ gs ts p (rw e at l))) (λ d. rw (ne_eqb k to.0 d, append-nil gs) l))
+    (set_ind (λ k c. Line (channel x k) gs ts → Line c (gs ++ given_of k (Given to n p)) ts) x.channels to.0 _ fresh (fits_given tb x to n p f).there
+    (λ l. rw (eq-eqb to.0 to.0 refl) (line_gave _ gs ts p l)) (λ k d l. rw (ne_eqb k to.0 d, append-nil gs) l) k l)
 line_next tb x (Taken from n p) k gs ts f l =
-    rw (append-nil gs, received_lines tb x p)
-    (at_line x.channels from.0 (took (line x.channels from.0)) (fits_taken tb x from n p f).there k (λ c. Line c gs (ts ++ taken_of k (Taken from n p)))
-    (λ e. rw (eq-eqb k from.0 e) (line_took _ gs ts p (rw e at l))) (λ d. rw (ne_eqb k from.0 d, append-nil ts) l))
+    rw (append-nil gs, (received_beside tb x p).channels)
+    (set_ind (λ k c. Line (channel x k) gs ts → Line c gs (ts ++ taken_of k (Taken from n p))) x.channels from.0 _ fresh (fits_taken tb x from n p f).there
+    (λ l. rw (eq-eqb from.0 from.0 refl) (line_took _ gs ts p l)) (λ k d l. rw (ne_eqb k from.0 d, append-nil ts) l) k l)
 line_next tb x (Heard from n) k gs ts f l =
+    let (b, h) = fits_heard tb x from n f in
     rw (append-nil gs, append-nil ts)
-    (at_line x.channels from.0 (heard_to (line x.channels from.0) n.0) (fits_heard tb x from n f).0 k (λ c. Line c gs ts)
-    (λ e. line_heard _ gs ts n.0 (fits_heard tb x from n f).1 (rw e at l)) (λ d. l))
+    (set_ind (λ k c. Line (channel x k) gs ts → Line c gs ts) x.channels from.0 _ fresh b (line_heard _ gs ts n.0 h) (λ k d l. l) k l)
+line_next tb x e k gs ts f l = rw (append-nil gs, append-nil ts) l
 
 -- the number up to which a record acknowledges what was given to k
 abbrev pub hears : ℕ → Record → ℕ
-hears k (Opened t) = 0
-hears k (Closed t) = 0
-hears k (Sold n p) = 0
-hears k (Undone n) = 0
-hears k (Given to n p) = 0
-hears k (Taken from n p) = 0
 hears k (Heard from n) = cond (eqb k from.0) n.0 0
+hears k e = 0
 
 pub heard_next : (tb : Table) (x : State) (e : Record) (k : ℕ) → fits tb x e ≡ true → (channel (apply tb x e) k).heard ≤ max (channel x k).heard (hears k e)
-heard_next tb x (Opened t) k f = rw (opened_lines (tb t.0) t x) (omega arith)
-heard_next tb x (Closed t) k f = omega arith
-heard_next tb x (Sold n p) k f = omega arith
-heard_next tb x (Undone n) k f = rw (returned_lines (ticket_of x n.0) x) (omega arith)
-heard_next tb x (Given to n p) k f =
-    at_line x.channels to.0 (gave (line x.channels to.0) p) (fits_given tb x to n p f).there k (λ c. c.heard ≤ max (channel x k).heard 0)
-    (λ e. omega (arith, ap (λ (m : ℕ). (line x.channels m).heard) e)) (λ d. omega arith)
+heard_next tb x (Opened t) k f = rw (opened_beside (tb t.0) t x).channels (omega arith)
+heard_next tb x (Undone n) k f = rw (returned_beside (ticket_of x n.0) x).channels (omega arith)
+heard_next tb x (Given to n p) k f = set_ind (λ k c. c.heard ≤ max (channel x k).heard 0) x.channels to.0 _ fresh (fits_given tb x to n p f).there (omega arith) (λ k d. omega arith) k
 heard_next tb x (Taken from n p) k f =
-    rw (received_lines tb x p)
-    (at_line x.channels from.0 (took (line x.channels from.0)) (fits_taken tb x from n p f).there k (λ c. c.heard ≤ max (channel x k).heard 0)
-    (λ e. omega (arith, ap (λ (m : ℕ). (line x.channels m).heard) e)) (λ d. omega arith))
+    rw (received_beside tb x p).channels (set_ind (λ k c. c.heard ≤ max (channel x k).heard 0) x.channels from.0 _ fresh (fits_taken tb x from n p f).there (omega arith) (λ k d. omega arith) k)
 heard_next tb x (Heard from n) k f =
-    at_line x.channels from.0 (heard_to (line x.channels from.0) n.0) (fits_heard tb x from n f).0 k (λ c. c.heard ≤ max (channel x k).heard (cond (eqb k from.0) n.0 0))
-    (λ e. rw (eq-eqb k from.0 e) (omega (arith, ap (λ (m : ℕ). (line x.channels m).heard) e))) (λ d. omega arith)
+    set_ind (λ k c. c.heard ≤ max (channel x k).heard (hears k (Heard from n))) x.channels from.0 _ fresh (fits_heard tb x from n f).0 (rw (eq-eqb from.0 from.0 refl) (omega arith)) (λ k d. omega arith) k
+heard_next tb x e k f = omega arith
 
 -- ---- the slots and the words
+
+-- a piece put back or taken out writes one word
+word_sound : (x : State) (i v : ℕ) → Sound x → Sound (with_words x (set x.words i v))
+word_sound x i v h = record { slots = h.slots; words = length-set x.words i v ∙ h.words; unique = h.unique }
 
 pub sound_next : (tb : Table) (x : State) (e : Record) → fits tb x e ≡ true → Sound x → Sound (apply tb x e)
 sound_next tb x (Opened t) f h = go (tb t.0) (fits_opened tb x t f)
   where
-    go : (o : Option Row) → (is_some o ≡ true) × (known x t ≡ false) × (place_of x.slots Free < length x.slots) → Sound (opened o t x)
+    go : (o : Option Row) → (is_some o ≡ true) × (known x t ≡ false) × (place_of x.slots None < length x.slots) → Sound (opened o t x)
     go None g = h
-    go (Some r) (_, k, l) = opened_sound x h t r (or_false (is_open x t) (was_closed x t) k).0 l
+    go (Some r) (_, k, l) = opened_sound x h t r (or_parts (is_open x t) (was_closed x t) k).0 l
 sound_next tb x (Closed t) f h = closing_sound x h t f
-sound_next tb x (Sold n p) f h = record { slots = h.slots; words = length-set x.words _ _ ∙ h.words; unique = h.unique }
 sound_next tb x (Undone n) f h = go (ticket_of x n.0)
   where
-    go : (y : Sale) → Sound (record { me = (returned y x).me; slots = (returned y x).slots; words = (returned y x).words; closed = (returned y x).closed; dropped = (returned y x).dropped; tickets = set x.tickets (n.0 - 1 - x.dropped) Returned; channels = (returned y x).channels })
-    go (Stands p) = record { slots = h.slots; words = length-set x.words _ _ ∙ h.words; unique = h.unique }
-    go Returned = record { slots = h.slots; words = h.words; unique = h.unique }
-sound_next tb x (Given to n p) f h = record { slots = h.slots; words = length-set x.words _ _ ∙ h.words; unique = h.unique }
+    go : (y : Option Piece) → Sound (returned y x)
+    go (Some p) = word_sound x _ _ h
+    go None = h
 sound_next tb x (Taken from n p) f h = go (received_by tb x p (fits_taken tb x from n p f).listed (fits_taken tb x from n p f).room)
   where
-    wide : (y : State) → received tb x p ≡ y → Sound y → Sound (apply tb x (Taken from n p))
-    wide y e g = rw e (record { slots = g.slots; words = g.words; unique = g.unique })
-
-    back : (y : State) → Sound y → Sound (put_back y p)
-    back y g = record { slots = g.slots; words = length-set y.words _ _ ∙ g.words; unique = g.unique }
-
-    go : Received tb x p → Sound (apply tb x (Taken from n p))
-    go (shut c e) = wide x e h
-    go (there c o e) = wide (put_back x p) e (back x h)
-    go (anew r is c o l e) = wide (put_back (opened (Some r) p.train x) p) e (back (opened (Some r) p.train x) (opened_sound x h p.train r o l))
-sound_next tb x (Heard from n) f h = record { slots = h.slots; words = h.words; unique = h.unique }
+    go : {y : State} → Received tb x p y → Sound y
+    go (shut c) = h
+    go (there c o) = word_sound x _ _ h
+    go (anew r is c o l) = word_sound (opened (Some r) p.train x) _ _ (opened_sound x h p.train r o l)
+sound_next tb x (Heard from n) f h = h
+sound_next tb x e f h = word_sound x _ _ h

@@ -1,71 +1,66 @@
 -- Where a train's slot is, when slots are written.
 -- Assumes nothing.
-use Rattle.std.proofs.Common.{◌≡◌, ℕ, zero, suc, ◌<◌, ◌≤◌, Bool, true, false, List, [], ◌∷◌, length, get_or, set, sym, refl, ap, ◌∙◌, arith}
+use Rattle.std.proofs.Common.{◌≡◌, ℕ, ◌<◌, ◌≤◌, Bool, true, false, not, cond, List, length, get_or, set, sym, refl, ap, ◌∙◌, arith, Some, None, Option, get_or-set_other, get_or-set_same, length-set}
+use Rattle.network.proofs.Lists.{set_ind}
 use Rattle.state.specs.States.{same, place_of}
-use Rattle.state.specs.declared.record.Slot.{Slot}
-use Rattle.state.specs.declared.record.Slot.TheVariants.{Free, Open}
 use Rattle.pieces.specs.declared.names.Train.{Train}
-use Rattle.std.proofs.lemmas.Bool.{cond_both, eqb-true, eq-eqb, ne_eqb, false≢true}
+use Rattle.std.specs.List.{position_or_len}
+use Rattle.std.proofs.lemmas.Bool.{eqb-true, eq-eqb, false_from_ne_true, true≢false, false≢true}
+use Rattle.std.proofs.lemmas.List.Folds.{position_or_len-set}
+use Rattle.std.proofs.lemmas.List.Recursion.{is_position_or_len}
+use Rattle.std.proofs.lemmas.List.Sums.{prefix_len-le-length, position_or_len_is, fails_before_first, passes_at_first}
 
-pub place_le : (xs : List Slot) (x : Slot) → place_of xs x ≤ length xs
-place_le [] x = omega arith
-place_le (y ∷ ys) x = cond_both (same y x) 0 (suc (place_of ys x)) (λ m. m ≤ suc (length ys)) (λ _. omega arith) (λ _. omega (arith, place_le ys x))
+pub train_is : {t z : Train} → t.0 ≡ z.0 → t ≡ z
+train_is e = ap (λ (n : ℕ). record { 0 = n }) e
+
+same_is : (y x : Option Train) → same y x ≡ true → y ≡ x
+same_is None None e = refl
+same_is (Some a) (Some b) e = ap Some (train_is (eqb-true a.0 b.0 e))
+same_is y x e = absurd (false≢true e)
+
+same_refl : (x : Option Train) → same x x ≡ true
+same_refl None = refl
+same_refl (Some t) = eq-eqb t.0 t.0 refl
+
+-- the slots that are of x
+abbrev of : Option Train → Option Train → Bool
+of x y = same y x
+
+place_is : (xs : List (Option Train)) (x : Option Train) → place_of xs x ≡ position_or_len (of x) xs
+place_is xs x = is_position_or_len (λ ys. place_of ys x) (of x) refl (λ y ys. ap (λ (n : ℕ). cond (same y x) 0 n) (omega arith)) xs
+
+pub place_le : (xs : List (Option Train)) (x : Option Train) → place_of xs x ≤ length xs
+place_le xs x = rw (place_is xs x) (prefix_len-le-length (λ y. not (of x y)) xs)
 
 -- what stands at a slot's place
-pub place_reads : (xs : List Slot) (x : Slot) → place_of xs x < length xs → same (get_or xs (place_of xs x) Free) x ≡ true
-place_reads [] x h = absurd (omega arith)
-place_reads (y ∷ ys) x h = go (same y x) refl (place_reads ys x)
-  where
-    go : (b : Bool) → same y x ≡ b → (place_of ys x < length ys → same (get_or ys (place_of ys x) Free) x ≡ true) → same (get_or (y ∷ ys) (place_of (y ∷ ys) x) Free) x ≡ true
-    go true e ih = rw e e
-    go false e ih = let l = rw e at h in rw e (ih (omega (arith, l)))
+pub place_reads : (xs : List (Option Train)) (x : Option Train) → place_of xs x < length xs → get_or xs (place_of xs x) None ≡ x
+place_reads xs x h = same_is _ x (rw (place_is xs x) (passes_at_first (of x) xs None (rw (place_is xs x) at h)))
 
 -- a slot that stands nowhere
-pub place_none : (xs : List Slot) (x : Slot) → ((k : ℕ) → k < length xs → same (get_or xs k Free) x ≡ false) → place_of xs x ≡ length xs
-place_none [] x h = refl
-place_none (y ∷ ys) x h = rw (h 0 (omega arith)) (omega (arith, place_none ys x (λ k l. h (suc k) (omega arith))))
+pub place_none : (xs : List (Option Train)) (x : Option Train) → ((k : ℕ) → k < length xs → get_or xs k None ≡ x → ⊥) → place_of xs x ≡ length xs
+place_none xs x h = place_is xs x ∙ position_or_len_is (of x) xs (length xs) None (omega arith) (λ k l. false_from_ne_true _ (λ e. h k l (same_is _ x e))) (λ l. absurd (omega (arith, l)))
 
-pub place_first : (xs : List Slot) (x : Slot) (k : ℕ) → k < place_of xs x → same (get_or xs k Free) x ≡ false
-place_first [] x k h = absurd (omega arith)
-place_first (y ∷ ys) x k h = go (same y x) refl k h (place_first ys x)
-  where
-    go : (b : Bool) → same y x ≡ b → (k : ℕ) → k < place_of (y ∷ ys) x → ((k : ℕ) → k < place_of ys x → same (get_or ys k Free) x ≡ false) → same (get_or (y ∷ ys) k Free) x ≡ false
-    go true e k l ih = let m = rw e at l in absurd (omega (arith, m))
-    go false e zero l ih = e
-    go false e (suc k) l ih = let m = rw e at l in ih k (omega (arith, m))
+pub place_first : (xs : List (Option Train)) (x : Option Train) (k : ℕ) → k < place_of xs x → get_or xs k None ≡ x → ⊥
+place_first xs x k h e = true≢false (sym (same_refl x) ∙ ap (of x) (sym e) ∙ fails_before_first (of x) xs k None (rw (place_is xs x) at h))
 
 -- a slot written that was none of x and is none of x
-pub place_other : (xs : List Slot) (k : ℕ) (y x : Slot) → same (get_or xs k Free) x ≡ false → same y x ≡ false → place_of (set xs k y) x ≡ place_of xs x
-place_other [] k y x g h = refl
-place_other (z ∷ xs) zero y x g h = rw (g, h) refl
-place_other (z ∷ xs) (suc k) y x g h = rw (place_other xs k y x g h) refl
+pub place_other : (xs : List (Option Train)) (k : ℕ) (y x : Option Train) → same (get_or xs k None) x ≡ false → same y x ≡ false → place_of (set xs k y) x ≡ place_of xs x
+place_other xs k y x g h = place_is (set xs k y) x ∙ position_or_len-set (of x) xs k y None (h ∙ sym g) ∙ sym (place_is xs x)
 
 -- a slot written with x, where x stood nowhere
-pub place_new : (xs : List Slot) (k : ℕ) (x : Slot) → k < length xs → place_of xs x ≡ length xs → same x x ≡ true → place_of (set xs k x) x ≡ k
-place_new [] k x l h e = absurd (omega arith)
-place_new (y ∷ ys) zero x l h e = rw e refl
-place_new (y ∷ ys) (suc k) x l h e = go (same y x) refl (λ m. place_new ys k x (omega arith) m e)
-  where
-    go : (b : Bool) → same y x ≡ b → (place_of ys x ≡ length ys → place_of (set ys k x) x ≡ k) → place_of (set (y ∷ ys) (suc k) x) x ≡ suc k
-    go true f ih = let m = rw f at h in absurd (omega (arith, m))
-    go false f ih = let m = rw f at h in rw f (ap suc (ih (omega (arith, m))))
+pub place_new : (xs : List (Option Train)) (k : ℕ) (x : Option Train) → k < length xs → place_of xs x ≡ length xs → place_of (set xs k x) x ≡ k
+place_new xs k x l h =
+    place_is (set xs k x) x
+    ∙ position_or_len_is (of x) (set xs k x) k None (omega (arith, length-set xs k x))
+    (λ j b. rw (get_or-set_other xs k j x None (λ d. omega (arith, d, b))) (false_from_ne_true _ (λ e. place_first xs x j (omega (arith, b, h)) (same_is _ x e)))) (λ _. rw (get_or-set_same xs k x None l) (same_refl x))
 
 -- ---- each train has one slot
 
-pub same_open : (t : Train) → same (Open t) (Open t) ≡ true
-same_open t = eq-eqb t.0 t.0 refl
+abbrev pub Unique : List (Option Train) → Type 0
+Unique xs = (t : Train) (k : ℕ) → k < length xs → get_or xs k None ≡ Some t → k ≡ place_of xs (Some t)
 
-pub same_train : (x : Slot) (t : Train) → same x (Open t) ≡ true → x ≡ Open t
-same_train Free t e = absurd (false≢true e)
-same_train (Open z) t e = ap (λ (n : ℕ). Open (record { 0 = n })) (eqb-true z.0 t.0 e)
-
-pub differ : (x : Slot) (t z : Train) → same x (Open t) ≡ true → (z.0 ≡ t.0 → ⊥) → same x (Open z) ≡ false
-differ Free t z e d = refl
-differ (Open y) t z e d = ne_eqb y.0 z.0 (λ f. d (sym f ∙ eqb-true y.0 t.0 e))
-
-pub free_only : (x : Slot) (t : Train) → same x Free ≡ true → same x (Open t) ≡ false
-free_only Free t e = refl
-free_only (Open z) t e = absurd (false≢true e)
-
-abbrev pub Unique : List Slot → Type 0
-Unique xs = (t : Train) (k : ℕ) → k < length xs → same (get_or xs k Free) (Open t) ≡ true → k ≡ place_of xs (Open t)
+-- a slot written, where that leaves the trains of the others where they were
+pub unique_set : (xs : List (Option Train)) (i : ℕ) (y : Option Train) → i < length xs → Unique xs → ((t : Train) → y ≡ Some t → i ≡ place_of (set xs i y) (Some t))
+    → ((t : Train) (k : ℕ) → (k ≡ i → ⊥) → k < length xs → get_or xs k None ≡ Some t → k ≡ place_of xs (Some t) → place_of xs (Some t) ≡ place_of (set xs i y) (Some t)) → Unique (set xs i y)
+unique_set xs i y b u here other t k l =
+    set_ind (λ k x. k < length xs → x ≡ Some t → k ≡ place_of (set xs i y) (Some t)) xs i y None b (λ _. here t) (λ k d l e. let f = u t k l e in f ∙ other t k d l e f) k (omega (arith, l, length-set xs i y))

@@ -1,8 +1,6 @@
 -- Where a stretch of a seat is.
-use Rattle.std.specs.Prelude.{ℕ, zero, suc, ◌+◌, ◌-◌, Bool, cond, List, [], ◌∷◌, ◌++◌, drop, replicate}
+use Rattle.std.specs.Prelude.{ℕ, zero, suc, ◌+◌, ◌-◌, Bool, cond, List, [], ◌∷◌, ◌++◌, drop, replicate, Some, None, Option, codes, decimal}
 use Rattle.state.specs.States.{State, place}
-use Rattle.state.specs.declared.record.Sale.{Sale}
-use Rattle.state.specs.declared.record.Sale.TheVariants.{Stands, Returned}
 use Rattle.network.specs.Worlds.{channel}
 use Rattle.network.specs.declared.place.Place.{Place}
 use Rattle.network.specs.declared.place.Place.TheVariants.{Held, Sold, Way}
@@ -22,11 +20,11 @@ count_in t s u [] = 0
 count_in t s u (p ∷ ps) = cond (has t.0 s u p) (1 + count_in t s u ps) (count_in t s u ps)
 
 -- the pieces of the tickets that stand
-abbrev pub piece_of : Sale → List Piece
-piece_of (Stands p) = p ∷ []
-piece_of Returned = []
+abbrev pub piece_of : Option Piece → List Piece
+piece_of (Some p) = p ∷ []
+piece_of None = []
 
-unfoldable pub standing : List Sale → List Piece
+unfoldable pub standing : List (Option Piece) → List Piece
 standing [] = []
 standing (x ∷ xs) = piece_of x ++ standing xs
 
@@ -49,3 +47,9 @@ spots n t s u x i =
 -- all places where it is, of n stations with the states x, by station
 abbrev pub places : (n : ℕ) → Train → (seat stop : ℕ) → (ℕ → State) → List Place
 places n t s u x = gather n (spots n t s u x)
+
+-- what a place prints
+abbrev pub printed : Place → List ℕ
+printed (Held i) = codes "held " ++ decimal i.0
+printed (Sold i) = codes "sold " ++ decimal i.0
+printed (Way i j) = codes "way " ++ decimal i.0 ++ codes " " ++ decimal j.0

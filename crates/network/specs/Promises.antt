@@ -1,16 +1,14 @@
 -- What is promised of every world that stations can come to. Each is a type; a proof of the type is the theorem.
-use Rattle.std.specs.Prelude.{◌≡◌, ℕ, ◌+◌, ◌<◌, true, false, ◌⊎◌, List, [], ◌∷◌, ◌++◌, length, Some, ◌≢◌, slice_index_or, slice_set}
+use Rattle.std.specs.Prelude.{◌≡◌, ℕ, ◌+◌, ◌<◌, true, false, ◌⊎◌, List, [], ◌∷◌, ◌++◌, length, Some, ◌≢◌, slice_index_or, slice_set, None, Ok}
 use mathlib.Core.List.{Memᴰ}
 use Rattle.giving.specs.declared.message.Body.TheVariants as body
 use Rattle.giving.specs.declared.message.Message.{Message}
-use Rattle.ledger.specs.Decisions.{decided, decided_open, listing, messages, after, records}
+use Rattle.ledger.specs.Decisions.{Answer, decided, decided_open, listing, messages, after, records}
 use Rattle.state.specs.States.{State, is_open, was_closed, known, openable, holds_piece, sold, tickets_left}
 use Rattle.ledger.specs.declared.input.Input.{Input}
 use Rattle.ledger.specs.declared.input.Input.TheVariants.{Close, Sell, Undo, Give, Take, Hear}
-use Rattle.ledger.specs.declared.input.Outcome.{Outcome}
 use Rattle.ledger.specs.declared.input.Outcome.TheVariants.{Done}
 use Rattle.state.specs.declared.record.Record.TheVariants.{Sold}
-use Rattle.state.specs.declared.record.Sale.TheVariants.{Stands, Returned}
 use Rattle.network.specs.Places.{places, under_way}
 use Rattle.network.specs.Worlds.{World, journal, state, Steps, Reach, Carries}
 use Rattle.pieces.specs.Parts.{has}
@@ -29,18 +27,18 @@ OnePlace = (n : ℕ) (tb : Table) (w : World) → Reach n tb w → (t : Train) (
 -- No stretch of a seat is sold under two tickets, of one station or of two.
 abbrev pub NeverTwice : Type 0
 NeverTwice = (n : ℕ) (tb : Table) (w : World) → Reach n tb w → (i j a b : ℕ) (p q : Piece) → i < n → j < n →
-    slice_index_or (state n tb w i).tickets a Returned ≡ Stands p → slice_index_or (state n tb w j).tickets b Returned ≡ Stands q → ((i ≡ j) × (a ≡ b) → ⊥) →
+    slice_index_or (state n tb w i).tickets a None ≡ Some p → slice_index_or (state n tb w j).tickets b None ≡ Some q → ((i ≡ j) × (a ≡ b) → ⊥) →
     (t s u : ℕ) → has t s u p ≡ true → has t s u q ≢ true
 
 -- Nothing is sold that the train has not.
 abbrev pub OnlyWhatIs : Type 0
-OnlyWhatIs = (n : ℕ) (tb : Table) (w : World) → Reach n tb w → (i a : ℕ) (p : Piece) → slice_index_or (state n tb w i).tickets a Returned ≡ Stands p →
-    (r : Row) × (tb p.train.0 ≡ Some r) × (p.seat.0 < r.seats) × (p.to.0 < r.stops)
+OnlyWhatIs = (n : ℕ) (tb : Table) (w : World) → Reach n tb w → (i a : ℕ) (p : Piece) → slice_index_or (state n tb w i).tickets a None ≡ Some p →
+    (r : Row) × (tb p.train.0 ≡ Some r) × (p.seat.0 < r.seats) × (p.trip.to.0 < r.stops)
 
 -- A station that holds a piece sells it, and says nothing to anybody, as long as it has a number for the ticket.
 abbrev pub SellsAlone : Type 0
 SellsAlone = (n : ℕ) (tb : Table) (w : World) → Reach n tb w → (i : ℕ) (p : Piece) → i < n → holds_piece (state n tb w i) p ≡ true → tickets_left (state n tb w i) ≡ true →
-    (decided tb (state n tb w i) (Sell p) ≡ Done (Sold (record { 0 = sold (state n tb w i) + 1 }) p))
+    (decided tb (state n tb w i) (Sell p) ≡ Ok (Done (Sold (record { 0 = sold (state n tb w i) + 1 }) p)))
     × (messages (after tb (state n tb w i) (decided tb (state n tb w i) (Sell p))) (Sell p) (decided tb (state n tb w i) (Sell p)) ≡ [])
 
 -- what is left on its way is nothing, or begins with a piece that the other station has no room for: it does not know the train, and can open none
@@ -75,11 +73,11 @@ Heeds ms i (Take from m p) = Memᴰ (record { from = from; to = record { 0 = i }
 Heeds ms i (Hear from m) = Memᴰ (record { from = from; to = record { 0 = i }; body = body.Taken m }) ms
 
 -- the world after a call of station i that came to o: what it wrote, and what it said
-abbrev pub called : (n : ℕ) → Table → World → (i : ℕ) → Input → Outcome → World
+abbrev pub called : (n : ℕ) → Table → World → (i : ℕ) → Input → Answer → World
 called n tb w i x o = record { journals = slice_set w.journals i (journal w i ++ records o); said = w.said ++ messages (after tb (state n tb w i) o) x o }
 
 -- the world after station i was to open a train
-abbrev pub opened_by : World → (i : ℕ) → Outcome → World
+abbrev pub opened_by : World → (i : ℕ) → Answer → World
 opened_by w i o = record { journals = slice_set w.journals i (journal w i ++ records o); said = w.said }
 
 -- Whatever a station decides and says of a call, or of a message that was said to it, is a run of steps, and so is an opening,

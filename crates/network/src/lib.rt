@@ -6,50 +6,36 @@ ghost use Rattle.network.specs.Promises.{OnePlace, NeverTwice, OnlyWhatIs, Sells
 pub mod place;
 
 // Each seat of each train, on each stretch, is in exactly one place.
-pub fn one_place_stands() -> u8
+pub fn one_place_stands()
     ensures { OnePlace }
-{
-    0
-}
+{}
 
 // No stretch of a seat is sold twice.
-pub fn never_twice_stands() -> u8
+pub fn never_twice_stands()
     ensures { NeverTwice }
-{
-    0
-}
+{}
 
 // Nothing is sold that the train has not.
-pub fn only_what_is_stands() -> u8
+pub fn only_what_is_stands()
     ensures { OnlyWhatIs }
-{
-    0
-}
+{}
 
 // A station that holds a piece sells it, without a message.
-pub fn sells_alone_stands() -> u8
+pub fn sells_alone_stands()
     ensures { SellsAlone }
-{
-    0
-}
+{}
 
 // What is on its way arrives, by saying and taking alone.
-pub fn arrives_stands() -> u8
+pub fn arrives_stands()
     ensures { Arrives }
-{
-    0
-}
+{}
 
 // Trains may be added to the timetable at any time.
-pub fn grows_stands() -> u8
+pub fn grows_stands()
     ensures { Grows }
-{
-    0
-}
+{}
 
 // Whatever a station decides and says is a run of steps.
-pub fn runs_stand() -> u8
+pub fn runs_stand()
     ensures { Runs }
-{
-    0
-}
+{}

@@ -1,69 +1,49 @@
 -- A train's part of a list of words, read and written. Assumes nothing.
-use Rattle.std.proofs.Common.{◌≡◌, ℕ, ◌+◌, ◌-◌, ◌*◌, ◌<◌, ◌≤◌, List, [], ◌++◌, length, get_or, take, drop, set, replicate, Some, None, Option, sym, ap, ◌∙◌, subst, ap₂, arith, MatchOption}
+use Rattle.std.proofs.Common.{◌≡◌, ℕ, ◌+◌, ◌-◌, ◌*◌, ◌<◌, ◌≤◌, List, ◌++◌, length, get_or, take, drop, set, Some, None, Option, sym, ap, ◌∙◌, subst, ap₂, arith, length-set, MatchOption}
 use borrow.Rule.Slice.PartMut.{put_mid}
-use Rattle.std.proofs.lemmas.List.{take_at, drop_at, drop_all, drop-drop, append-nil, length-replicate, length-drop, length-take-le, take-append-drop, get_or-take, get_or-drop, set-append_left, set-append_right}
+use Rattle.std.proofs.lemmas.Bool.{cases_eq}
+use Rattle.std.proofs.lemmas.Grind.{get_or-set_at}
+use Rattle.std.proofs.lemmas.List.{places, same_lists, get_or-set_other, take_at}
 use Rattle.pieces.specs.declared.names.Seat.{Seat}
-use Rattle.pieces.specs.Memory.{seated, placed}
+use Rattle.pieces.specs.Memory.{Changing, at, train_at, altered}
 use Rattle.pieces.specs.Search.{NoneCovers, Lowest}
 use Rattle.pieces.specs.Stretches.{Covers}
-
--- the first n of 400 words written, and then the others
-pub seated_parts : (xs us vs : List ℕ) (n k w : ℕ) → n ≤ 400 → length xs ≡ 400 → k ≡ n → us ≡ replicate (length (take k xs)) w
-    → vs ≡ replicate (length (take (400 - n) (drop n (us ++ drop k xs)))) 0 → put_mid n (400 - n) (us ++ drop k xs) vs ≡ seated n w
-seated_parts xs us vs n k w h l e f g =
-    let lu : length (take k xs) ≡ n = length-take-le k xs (omega arith) ∙ e in
-    let fu : us ≡ replicate n w = f ∙ ap (λ (x : ℕ). replicate x w) lu in
-    let i : length us ≡ n = ap length fu ∙ length-replicate n w in
-    let mid : drop n (us ++ drop k xs) ≡ drop k xs = drop_at us (drop k xs) n i in
-    let lv : length (take (400 - n) (drop n (us ++ drop k xs))) ≡ 400 - n =
-    length-take-le (400 - n) (drop n (us ++ drop k xs)) (omega (arith, ap length mid, length-drop k xs)) in
-    let rest : drop (400 - n) (drop n (us ++ drop k xs)) ≡ [] = ap (drop (400 - n)) mid ∙ drop_all (400 - n) (drop k xs) (omega (arith, length-drop k xs)) in
-    ap₂ (λ x y. x ++ (vs ++ y)) (take_at us (drop k xs) n i ∙ fu) rest
-    ∙ ap (λ x. replicate n w ++ x) (append-nil vs ∙ g ∙ ap (λ (x : ℕ). replicate x 0) lv)
 
 -- ---- the part of n words from i on
 
 pub part_at : (xs : List ℕ) (i n s : ℕ) → s < n → get_or (take n (drop i xs)) s 0 ≡ get_or xs (i + s) 0
-part_at xs i n s l = get_or-take n (drop i xs) s 0 l ∙ get_or-drop i xs s 0
+part_at xs i n s l = grind (arith, places)
 
 pub part_length : (xs : List ℕ) (i n : ℕ) → i + n ≤ length xs → length (take n (drop i xs)) ≡ n
-part_length xs i n h = length-take-le n (drop i xs) (omega (arith, length-drop i xs))
+part_length xs i n h = grind (arith, places)
 
-pub part_set : (xs : List ℕ) (i n s v : ℕ) → i + n ≤ length xs → s < n → put_mid i n xs (set (take n (drop i xs)) s v) ≡ set xs (i + s) v
-part_set xs i n s v h l =
-    let ys = take n (drop i xs) in
-    let back : i + s - i ≡ s = omega arith in
-    ap (λ x. take i xs ++ x) (sym (set-append_left ys (drop n (drop i xs)) s v (omega (arith, part_length xs i n h))) ∙ ap (λ x. set x s v) (take-append-drop n (drop i xs)))
-    ∙ ap (λ (j : ℕ). take i xs ++ set (drop i xs) j v) (sym back)
-    ∙ sym (set-append_right (take i xs) (drop i xs) i (i + s) v (length-take-le i xs (omega arith)) (omega arith))
-    ∙ ap (λ x. set x (i + s) v) (take-append-drop i xs)
+part_set : (xs : List ℕ) (i n s v : ℕ) → i + n ≤ length xs → s < n → put_mid i n xs (set (take n (drop i xs)) s v) ≡ set xs (i + s) v
+part_set xs i n s v h l = same_lists _ _ (grind (arith, places, length-set)) (λ k d g. grind (arith, places, length-set, get_or-set_at, get_or-set_other, cases_eq k (i + s)))
 
--- one word of the part changed
-pub part_edit : (f : ℕ → ℕ) (xs ys : List ℕ) (i n m s : ℕ) → m ≡ n → i + n ≤ length xs → s < n → ys ≡ set (take m (drop i xs)) s (f (get_or (take m (drop i xs)) s 0))
-    → put_mid i m xs ys ≡ set xs (i + s) (f (get_or xs (i + s) 0))
-part_edit f xs ys i n m s e h l g =
-    ap (put_mid i m xs) g
-    ∙ ap (λ (j : ℕ). put_mid i j xs (set (take j (drop i xs)) s (f (get_or (take j (drop i xs)) s 0)))) e
-    ∙ part_set xs i n s (f (get_or (take n (drop i xs)) s 0)) h l
-    ∙ ap (λ (y : ℕ). set xs (i + s) (f y)) (part_at xs i n s l)
+-- ---- a train's part of a vector of words: it stands from i to e, and xs are the words as they are lent
 
--- the part written anew
-pub part_anew : (xs vs ys : List ℕ) (k m : ℕ) → m ≡ 400 → ys ≡ vs → put_mid (k * 400) m xs ys ≡ placed xs k vs
-part_anew xs vs ys k m e g =
-    ap₂ (λ z (j : ℕ). take (k * 400) xs ++ (z ++ drop j (drop (k * 400) xs))) g e
-    ∙ ap (λ z. take (k * 400) xs ++ (vs ++ z)) (drop-drop 400 (k * 400) xs)
+module _ (ws xs : List ℕ) (k i e : ℕ) (lent : xs ≡ ws) (from : i ≡ k * 400) (to : e ≡ k * 400 + 400) where
+  pub part_is : take (e - i) (drop i xs) ≡ train_at ws k
+  part_is = let n : e - i ≡ 400 = omega arith in ap₂ (λ (m : ℕ) l. take m (drop i l)) n lent ∙ ap (λ (j : ℕ). take 400 (drop j ws)) from
 
--- the lowest seat of the part
-pub part_lowest : (xs : List ℕ) (i n m a b : ℕ) (r : Option Seat) → m ≡ n → i + n ≤ length xs
-    → MatchOption r (NoneCovers (λ s. get_or (take m (drop i xs)) s 0) (length (take m (drop i xs))) a b) (λ x. Lowest (λ s. get_or (take m (drop i xs)) s 0) (length (take m (drop i xs))) a b x.0)
-    → MatchOption r (NoneCovers (λ s. get_or xs (i + s) 0) n a b) (λ x. Lowest (λ s. get_or xs (i + s) 0) n a b x.0)
-part_lowest xs i n m a b None e h g =
-    let len : length (take m (drop i xs)) ≡ m = part_length xs i m (omega arith) in
-    λ s l c. g s (omega arith) (subst (λ w. Covers w a b) (sym (part_at xs i m s (omega arith))) c)
-part_lowest xs i n m a b (Some x) e h g =
-    let len : length (take m (drop i xs)) ≡ m = part_length xs i m (omega arith) in
-    let near : x.0 < m = omega (arith, g.0) in (
-      omega arith,
-      subst (λ w. Covers w a b) (part_at xs i m x.0 near) g.1,
-      λ s l c. g.2 s l (subst (λ w. Covers w a b) (sym (part_at xs i m s (omega arith))) c),
-    )
+  -- one of its words written, in a vector of n words
+  pub part_changed : (f : Changing) (ys : List ℕ) (n s a b : ℕ) → length ws ≡ n → k * 400 + 400 ≤ n → s < 400
+      → ys ≡ set (take (e - i) (drop i xs)) s (f (get_or (take (e - i) (drop i xs)) s 0) a b)
+      → take n (put_mid i (e - i) xs ys ++ drop (length (put_mid i (e - i) xs ys)) ws) ≡ altered f ws k s a b
+  part_changed f ys n s a b long within near edit =
+      let m : e - i ≡ 400 = omega arith in
+      let v = f (get_or (train_at ws k) s 0) a b in
+      let done : put_mid i (e - i) xs ys ≡ altered f ws k s a b =
+      ap₂ (λ (j l : ℕ). put_mid j l xs ys) from m
+      ∙ ap₂ (λ us vs. put_mid (k * 400) 400 us vs) lent (edit ∙ ap (λ us. set us s (f (get_or us s 0) a b)) part_is)
+      ∙ part_set ws (k * 400) 400 s v (omega arith) near
+      ∙ ap (λ (w : ℕ). set ws (at k s) (f w a b)) (part_at ws (k * 400) 400 s near) in
+      take_at (put_mid i (e - i) xs ys) (drop (length (put_mid i (e - i) xs ys)) ws) n (ap length done ∙ length-set ws (at k s) _ ∙ long) ∙ done
+
+-- the lowest seat, of words that are the same
+pub same_lowest : (f g : ℕ → ℕ) (m n a b : ℕ) (r : Option Seat) → m ≡ n → ((s : ℕ) → s < n → f s ≡ g s)
+    → MatchOption r (NoneCovers f m a b) (λ x. Lowest f m a b x.0) → MatchOption r (NoneCovers g n a b) (λ x. Lowest g n a b x.0)
+same_lowest f g m n a b None e h r = λ s l c. r s (omega arith) (subst (λ w. Covers w a b) (sym (h s l)) c)
+same_lowest f g m n a b (Some x) e h r =
+    let near : x.0 < n = omega (arith, r.0) in
+    (near, subst (λ w. Covers w a b) (h x.0 near) r.1, λ s l c. r.2 s l (subst (λ w. Covers w a b) (sym (h s (omega arith))) c))

@@ -1,13 +1,13 @@
 -- The runs of a word. Assumes nothing.
-use Rattle.std.proofs.Common.{◌≡◌, ℕ, zero, suc, ◌+◌, ◌-◌, ◌<◌, ◌≤◌, true, false, ap, ◌∙◌, inl, inr, ⊎_elim, arith}
-use Rattle.std.proofs.lemmas.Bool.{cases_Bool, cases_lt, cases_order, both_ways}
+use Rattle.std.proofs.Common.{◌≡◌, ℕ, zero, suc, ◌+◌, ◌-◌, ◌^◌, ◌<◌, ◌≤◌, true, false, ap, ◌∙◌, pow-suc, ⊎_elim, arith}
+use Rattle.std.proofs.lemmas.Bool.{cases_Bool, both_ways}
 use Rattle.pieces.specs.Laws.{IsRun, InARun, Apart, Around, Runs, PutsBack}
 use Rattle.pieces.specs.Stretches.{holds, Covers, FirstOf}
-use Rattle.pieces.proofs.Bitwise.{holds_past, below_pow, plus_less, less_plus}
+use Rattle.pieces.proofs.Bitwise.{holds_past, plus_less, less_plus}
 
 -- two spans that meet
 covers_both : (w a b c : ℕ) → Covers w a b → Covers w b c → Covers w a c
-covers_both w a b c f g k i j = ⊎_elim (λ l. f k i l) (λ l. g k l j) (cases_lt k b)
+covers_both w a b c f g k i j = grind arith
 
 covers_one : (w k : ℕ) → holds w k ≡ true → Covers w k (suc k)
 covers_one w k h j i l = let e : j ≡ k = omega arith in ap (holds w) e ∙ h
@@ -33,6 +33,10 @@ end_of w b (suc n) h =
     (r.0, omega (arith, r.1), covers_both w b (suc b) r.0 (covers_one w b t) r.2, r.3))
     (λ f. (b, omega arith, covers_none w b, f))
     (cases_Bool (holds w b))
+
+below_pow : (n : ℕ) → n < 2 ^ n
+below_pow zero = omega arith
+below_pow (suc n) = omega (arith, below_pow n, pow-suc 2 n)
 
 pub in_a_run : InARun
 in_a_run w k h =
@@ -62,22 +66,14 @@ ends : (w a b c d : ℕ) → IsRun w a b → IsRun w c d → c ≤ b → b < d �
 ends w a b c d r s l m = both_ways (holds w b) r.last (s.all b l m)
 
 pub apart : Apart
-apart w a b c d r s =
-    ⊎_elim (λ l. inr (inl l))
-    (λ i. ⊎_elim (λ l. inr (inr l))
-    (λ j. inl (
-      ⊎_elim (λ e. e) (⊎_elim (λ l. absurd (begins w a b c d r s l i)) (λ l. absurd (begins w c d a b s r l j))) (cases_order a c),
-      ⊎_elim (λ e. e) (⊎_elim (λ l. absurd (ends w a b c d r s i l)) (λ l. absurd (ends w c d a b s r j l))) (cases_order b d),
-    ))
-    (cases_lt d a))
-    (cases_lt b c)
+apart w a b c d r s = grind (arith, begins w a b c d r s, begins w c d a b s r, ends w a b c d r s, ends w c d a b s r)
 
 pub around : Around
 around w a b s e h l c f g = record {
   ordered = omega (arith, f.below, g.above);
   all = covers_both w s a e f.all (covers_both w a b e c g.all);
   first = f.stops;
-  last = ⊎_elim (λ i. g.stops i) (λ i. holds_past w 29 e h i) (cases_lt e 29);
+  last = grind (arith, holds_past w 29 e h);
 }
 
 pub runs_stand : Runs

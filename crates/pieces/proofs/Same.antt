@@ -1,23 +1,11 @@
--- Pieces with the same train, seat and stops are the same, and so are trips with the same stops.
+-- Trips with the same stops are the same.
 use Rattle.std.proofs.Common.{◌≡◌, ◌<◌, Bool, true, false, ltb, Some, None, sym, refl, ap, ◌∙◌}
 use mathlib.Core.HLevel.{is_prop→PathP}
 use native.Mathlib.Bridge.{le_prop}
 use Rattle.pieces.specs.Parts.{trip_if, trip_from}
 use Rattle.pieces.specs.declared.names.Stop.{Stop}
-use Rattle.pieces.specs.declared.piece.Piece.{Piece}
 use Rattle.pieces.specs.declared.trip.Trip.{Trip}
 use Rattle.std.proofs.lemmas.Bool.{lt-ltb, ltb-true, true≢false}
-
-pub same_piece : (p q : Piece) → p.train ≡ q.train → p.seat ≡ q.seat → p.from ≡ q.from → p.to ≡ q.to → p ≡ q
-same_piece p q a b c d j =
-    record {
-      train = a j;
-      seat = b j;
-      from = c j;
-      to = d j;
-      ordered = is_prop→PathP (λ k. (c k).0 < (d k).0) (λ k. le_prop) p.ordered q.ordered j;
-      near = is_prop→PathP (λ k. (d k).0 < 30) (λ k. le_prop) p.near q.near j;
-    }
 
 pub same_trip : (p q : Trip) → p.from ≡ q.from → p.to ≡ q.to → p ≡ q
 same_trip p q c d j =

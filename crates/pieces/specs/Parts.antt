@@ -1,5 +1,5 @@
 -- Pieces made of a seat and a trip, and what a piece has.
-use Rattle.std.specs.Prelude.{◌≡◌, ℕ, Bool, true, false, ◌&&◌, Some, None, Option, ◌==◌, nat_lt, refl}
+use Rattle.std.specs.Prelude.{◌≡◌, ℕ, Bool, true, false, ◌&&◌, Some, None, Option, ◌==◌, nat_lt, refl, List, ◌++◌, codes, decimal}
 use Rattle.std.proofs.Common.{lit<}
 use Rattle.pieces.specs.Stretches.{within}
 use Rattle.pieces.specs.declared.names.Seat.{Seat}
@@ -10,10 +10,7 @@ use Rattle.pieces.specs.declared.trip.Trip.{Trip}
 use Rattle.std.proofs.lemmas.Bool.{ltb-true}
 
 abbrev pub piece_of : Train → Seat → Trip → Piece
-piece_of t s r = record { train = t; seat = s; from = r.from; to = r.to; ordered = r.ordered; near = r.near }
-
-abbrev pub trip_of : Piece → Trip
-trip_of p = record { from = p.from; to = p.to; ordered = p.ordered; near = p.near }
+piece_of t s r = record { train = t; seat = s; trip = r }
 
 -- the trip from a stop to a stop: none where that is no stretch, or a stop that no train has
 abbrev pub trip_if : (a b : Stop) → (x : Bool) → nat_lt a.0 b.0 ≡ x → (y : Bool) → nat_lt b.0 30 ≡ y → Option Trip
@@ -26,8 +23,12 @@ trip_from a b = trip_if a b (nat_lt a.0 b.0) refl (nat_lt b.0 30) refl
 
 -- a piece to read where a list has none
 abbrev pub blank : Piece
-blank = record { train = record { 0 = 0 }; seat = record { 0 = 0 }; from = record { 0 = 0 }; to = record { 0 = 1 }; ordered = lit< tt; near = lit< tt }
+blank = record { train = record { 0 = 0 }; seat = record { 0 = 0 }; trip = record { from = record { 0 = 0 }; to = record { 0 = 1 }; ordered = lit< tt; near = lit< tt } }
 
 -- does a piece have the stretch from a stop to the next, of a seat of a train
 abbrev pub has : (train seat stop : ℕ) → Piece → Bool
-has t s u p = t == p.train.0 && (s == p.seat.0 && within p.from.0 p.to.0 u)
+has t s u p = t == p.train.0 && (s == p.seat.0 && within p.trip.from.0 p.trip.to.0 u)
+
+-- what a piece prints: its train, its seat, and from where to where
+abbrev pub printed : Piece → List ℕ
+printed p = decimal p.train.0 ++ codes " " ++ decimal p.seat.0 ++ codes ":" ++ decimal p.trip.from.0 ++ codes "-" ++ decimal p.trip.to.0

@@ -2,15 +2,11 @@
 ghost use Rattle.pieces.specs.Laws.{PutsBack, Runs};
 
 // What was taken out and is put back leaves the word as it was.
-pub fn put_back_stands() -> u8
+pub fn put_back_stands()
     ensures { PutsBack }
-{
-    0
-}
+{}
 
 // Held stretches lie in runs, and runs that meet are one.
-pub fn joined_stands() -> u8
+pub fn joined_stands()
     ensures { Runs }
-{
-    0
-}
+{}

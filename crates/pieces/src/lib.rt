@@ -1,12 +1,14 @@
 // Seats of trains, from stop to stop: which stretches of a seat are held, as the bits of one word.
 #![tactic(auto)]
 
+pub mod change;
 pub mod laws;
 pub mod memory;
 pub mod names;
 pub mod piece;
 pub mod profile;
 pub mod seats;
+pub mod stretch;
 #[cfg(test)]
 mod tests;
 pub mod trip;

@@ -1,89 +1,130 @@
-// The seats of all open trains in one slice: 64 places, with 400 words each.
-ghost use Rattle.std.specs.Prelude.{◌≡◌, ◌<◌, ◌≤◌, length, MatchOption};
-ghost use Rattle.pieces.specs.Memory.{word_at, without, together, without_all, together_all, seated, placed};
+// The seats of all open trains in one memory: 64 slots, with 400 words each.
+ghost use Rattle.std.specs.Prelude.{◌≡◌, ℕ, ◌<◌, ◌≤◌, ◌*◌, ◌+◌, ◌&&◌, replicate, length, nat_lt, slice_index, vec_len, IfOk, MatchOption};
+ghost use Rattle.std.specs.List.{AllByRecursion};
+ghost use Rattle.pieces.specs.Memory.{word_at, train_at, altered, altered_all, seated, placed};
 ghost use Rattle.pieces.specs.Search.{NoneCovers, Lowest};
 ghost use Rattle.pieces.specs.Stretches.{holds, covered};
 ghost use Rattle.pieces.specs.declared.names.Seat.{Seat as Chair};
-ghost use Rattle.std.specs.List.{AllByRecursion};
 
+use crate::change::Change;
 use crate::names::{Seat, Stop};
-use crate::seats::{lowest, put_in, seat_all, take_out};
 use crate::trip::Trip;
-use crate::words::{covers, held};
+use crate::{seats, words};
+use std::alloc::{AllocError, Global};
+use std::ops::Range;
 
 pub const SEATS: usize = 400;
 
 pub const PLACES: usize = 64;
 
-// Takes the trip out of a seat of the train at a place.
-pub fn take_out_at(all: &mut [u64], place: usize, seat: Seat, trip: Trip)
-    requires { (length all.old ≡ 25600) × ((place < 64) × (seat.0 < 400)) }
-    ensures { all.new ≡ without all.old place seat.0 trip.from.0 trip.to.0 }
-{
-    let first = place * SEATS;
-    take_out(&mut all[first..first + SEATS], seat, trip);
+// Where the seats of an open train stand.
+#[derive(Clone, Copy, Debug, PartialEq, Eq, Drop)]
+pub struct Slot {
+    index: usize,
+    ghost few: { index < 64 },
 }
 
-// Puts the trip into a seat of the train at a place.
-pub fn put_in_at(all: &mut [u64], place: usize, seat: Seat, trip: Trip)
-    requires { (length all.old ≡ 25600) × ((place < 64) × (seat.0 < 400)) }
-    ensures { all.new ≡ together all.old place seat.0 trip.from.0 trip.to.0 }
-{
-    let first = place * SEATS;
-    put_in(&mut all[first..first + SEATS], seat, trip);
-}
+impl Slot {
+    // None from 64 on.
+    pub fn new(index: usize) -> Option<Slot>
+        ensures { MatchOption result (64 ≤ index) (λ slot. slot.index ≡ index) }
+    {
+        if index < PLACES {
+            Some(Slot { index })
+        } else {
+            None
+        }
+    }
 
-// Takes the trip out of several seats of the train at a place, one after the other.
-pub fn take_out_all_at(all: &mut [u64], place: usize, seats: &[Seat], trip: Trip)
-    requires { (length all.old ≡ 25600) × ((place < 64) × (AllByRecursion (λ (s : Chair). s.0 < 400) seats.now)) }
-    ensures { all.new ≡ without_all all.old place seats.now trip.from.0 trip.to.0 }
-{
-    for seat in seats.iter() {
-        take_out_at(all, place, *seat, trip);
+    pub fn index(self) -> usize
+        ensures { result ≡ self.index }
+    {
+        self.index
+    }
+
+    // Where the words of the train stand.
+    fn range(self) -> Range<usize>
+        ensures { (result.start ≡ self.index * 400) × (result.end ≡ self.index * 400 + 400) }
+    {
+        let first = self.index * SEATS;
+        first..first + SEATS
     }
 }
 
-// Puts the trip into several seats of the train at a place.
-pub fn put_in_all_at(all: &mut [u64], place: usize, seats: &[Seat], trip: Trip)
-    requires { (length all.old ≡ 25600) × ((place < 64) × (AllByRecursion (λ (s : Chair). s.0 < 400) seats.now)) }
-    ensures { all.new ≡ together_all all.old place seats.now trip.from.0 trip.to.0 }
-{
-    for seat in seats.iter() {
-        put_in_at(all, place, *seat, trip);
+#[derive(Drop)]
+pub struct Memory {
+    words: Vec<u64>,
+    ghost whole: { vec_len words ≡ 25600 },
+}
+
+impl Memory {
+    // Nothing is held.
+    pub fn new(heap: Global) -> Result<Memory, AllocError>
+        ensures { IfOk result (λ memory. memory.words.items ≡ replicate 25600 0) }
+    {
+        let words = vec![in heap; 0; PLACES * SEATS]?;
+        Ok(Memory { words })
     }
-}
 
-// Gives each of the `count` seats of a train at a place the same word.
-pub fn open_at(all: &mut [u64], place: usize, count: u16, word: u64)
-    requires { (length all.old ≡ 25600) × ((place < 64) × (count ≤ 400)) }
-    ensures { all.new ≡ placed all.old place (seated count word) }
-{
-    let first = place * SEATS;
-    seat_all(&mut all[first..first + SEATS], count, word);
-}
+    // The words of the seats of one train.
+    pub fn train(&self, slot: Slot) -> &[u64]
+        ensures value { result.now ≡ train_at self.now.words.items slot.index }
+        ensures long { length result.now ≡ 400 }
+        ensures each { (s : ℕ) → s < 400 → slice_index result.now s ≡ word_at self.now.words.items slot.index s }
+    {
+        &self.words[slot.range()]
+    }
 
-// Whether a seat of the train at a place covers the trip.
-pub fn covers_at(all: &[u64], place: usize, seat: Seat, trip: Trip) -> bool
-    requires { (length all.now ≡ 25600) × ((place < 64) × (seat.0 < 400)) }
-    ensures { result ≡ covered (word_at all.now place seat.0) trip.from.0 trip.to.0 }
-{
-    covers(all[place * SEATS + usize::from(seat.0)], trip)
-}
+    // Changes the stretches of a trip of one seat.
+    pub fn change<C: Change>(&mut self, slot: Slot, seat: Seat, trip: Trip)
+        requires { seat.0 < 400 }
+        ensures { self.new.words.items ≡ altered C.changed self.old.words.items slot.index seat.0 trip.from.0 trip.to.0 }
+    {
+        seats::change::<C>(&mut self.words[slot.range()], seat, trip);
+    }
 
-// Whether a seat of the train at a place holds the stretch from a stop to the next.
-pub fn holds_at(all: &[u64], place: usize, seat: Seat, stop: Stop) -> bool
-    requires { (length all.now ≡ 25600) × ((place < 64) × (seat.0 < 400)) }
-    ensures { result ≡ holds (word_at all.now place seat.0) stop.0 }
-{
-    held(all[place * SEATS + usize::from(seat.0)], stop)
-}
+    // Changes them of several seats, one after the other.
+    pub fn change_all<C: Change>(&mut self, slot: Slot, seats: &[Seat], trip: Trip)
+        requires { AllByRecursion (λ (s : Chair). s.0 < 400) seats.now }
+        ensures { self.new.words.items ≡ altered_all C.changed self.old.words.items slot.index seats.now trip.from.0 trip.to.0 }
+    {
+        for seat in seats {
+            self.change::<C>(slot, *seat, trip);
+        }
+    }
 
-// The lowest of the first `count` seats of the train at a place that covers the trip.
-pub fn lowest_at(all: &[u64], place: usize, count: u16, trip: Trip) -> Option<Seat>
-    requires { (length all.now ≡ 25600) × ((place < 64) × (count ≤ 400)) }
-    ensures { MatchOption result (NoneCovers (word_at all.now place) count trip.from.0 trip.to.0)
-        (λ seat. Lowest (word_at all.now place) count trip.from.0 trip.to.0 seat.0) }
-{
-    let first = place * SEATS;
-    lowest(&all[first..first + usize::from(count)], trip)
+    // Gives each of the `count` seats of a train the same word.
+    pub fn open(&mut self, slot: Slot, count: u16, word: u64)
+        requires { count ≤ 400 }
+        ensures { self.new.words.items ≡ placed self.old.words.items slot.index (seated count word) }
+    {
+        seats::seat_all(&mut self.words[slot.range()], count, word);
+    }
+
+    // Whether a seat covers the trip.
+    pub fn covers(&self, slot: Slot, seat: Seat, trip: Trip) -> bool
+        ensures { result ≡ (nat_lt seat.0 400 && covered (word_at self.now.words.items slot.index seat.0) trip.from.0 trip.to.0) }
+    {
+        self.train(slot)
+            .get(usize::from(seat.0))
+            .is_some_and(|word| words::covers(*word, trip))
+    }
+
+    // Whether a seat holds the stretch from a stop to the next.
+    pub fn holds(&self, slot: Slot, seat: Seat, stop: Stop) -> bool
+        ensures { result ≡ (nat_lt seat.0 400 && holds (word_at self.now.words.items slot.index seat.0) stop.0) }
+    {
+        self.train(slot)
+            .get(usize::from(seat.0))
+            .is_some_and(|word| words::held(*word, stop))
+    }
+
+    // The lowest of the first `count` seats that covers the trip.
+    pub fn lowest(&self, slot: Slot, count: u16, trip: Trip) -> Option<Seat>
+        requires { count ≤ 400 }
+        ensures { MatchOption result (NoneCovers (word_at self.now.words.items slot.index) count trip.from.0 trip.to.0)
+            (λ seat. Lowest (word_at self.now.words.items slot.index) count trip.from.0 trip.to.0 seat.0) }
+    {
+        seats::lowest(&self.train(slot)[..usize::from(count)], trip)
+    }
 }

@@ -1,7 +1,6 @@
-// A piece: a seat of a train from a stop up to a later one, by value.
-ghost use Rattle.std.specs.Prelude.{◌<◌};
-
-use crate::names::{Seat, Stop, Train};
+// A piece: a trip of one seat of a train, by value.
+use crate::names::{Seat, Train};
+use crate::trip::Trip;
 
 pub mod cuts;
 
@@ -9,8 +8,5 @@ pub mod cuts;
 pub struct Piece {
     pub train: Train,
     pub seat: Seat,
-    pub from: Stop,
-    pub to: Stop,
-    ghost ordered: { from.0 < to.0 },
-    ghost near: { to.0 < 30 },
+    pub trip: Trip,
 }

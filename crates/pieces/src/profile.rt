@@ -4,6 +4,7 @@ ghost use Rattle.pieces.specs.Counts.{count_held_on};
 
 use crate::names::Stop;
 use crate::words::held;
+use std::array;
 
 // For each stop the number of seats that hold the stretch from it to the next.
 #[derive(Clone, Copy, Debug, Drop)]
@@ -16,13 +17,7 @@ fn held_on(seats: &[u64], stop: Stop) -> u16
     requires { length seats.now ≤ 400 }
     ensures { result ≡ count_held_on stop.0 seats.now }
 {
-    let mut n = 0;
-    for word in seats {
-        if held(*word, stop) {
-            n += 1;
-        }
-    }
-    n
+    seats.iter().filter(|word| held(**word, stop)).count() as u16
 }
 
 impl Profile {
@@ -31,10 +26,7 @@ impl Profile {
         ensures each { (k : ℕ) → k < 30 → slice_index result.held k ≡ count_held_on k seats.now }
         ensures long { length result.held ≡ 30 }
     {
-        let mut held = [0; 30];
-        for stop in 0..30 {
-            held[usize::from(stop)] = held_on(seats, Stop(stop));
-        }
+        let held = array::from_fn(|stop| held_on(seats, Stop(stop as u8)));
         Profile { held }
     }
 }

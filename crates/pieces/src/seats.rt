@@ -2,28 +2,20 @@
 ghost use Rattle.std.specs.Prelude.{◌≡◌, ◌-◌, ◌<◌, ◌≤◌, length, MatchOption, slice_index, slice_set};
 ghost use Rattle.pieces.specs.Memory.{seated};
 ghost use Rattle.pieces.specs.Search.{NoneCovers, Lowest};
-ghost use Rattle.pieces.specs.Stretches.{span, less, plus};
+ghost use Rattle.pieces.specs.Stretches.{span};
 
+use crate::change::Change;
 use crate::names::Seat;
 use crate::trip::Trip;
-use crate::words::{covers, put_back, taken_out};
+use crate::words::covers;
 
-// Takes the trip out of a seat.
-pub fn take_out(seats: &mut [u64], seat: Seat, trip: Trip)
+// Changes the stretches of a trip of one seat.
+pub fn change<C: Change>(seats: &mut [u64], seat: Seat, trip: Trip)
     requires { seat.0 < length seats.old }
-    ensures { seats.new ≡ slice_set seats.old seat.0 (less (slice_index seats.old seat.0) trip.from.0 trip.to.0) }
+    ensures { seats.new ≡ slice_set seats.old seat.0 (C.changed (slice_index seats.old seat.0) trip.from.0 trip.to.0) }
 {
-    let i = usize::from(seat.0);
-    seats[i] = taken_out(seats[i], trip);
-}
-
-// Puts the trip into a seat.
-pub fn put_in(seats: &mut [u64], seat: Seat, trip: Trip)
-    requires { seat.0 < length seats.old }
-    ensures { seats.new ≡ slice_set seats.old seat.0 (plus (slice_index seats.old seat.0) trip.from.0 trip.to.0) }
-{
-    let i = usize::from(seat.0);
-    seats[i] = put_back(seats[i], trip);
+    let word = &mut seats[usize::from(seat.0)];
+    *word = C::word(*word, trip);
 }
 
 // Gives the first `count` seats the same word, and the others none.
@@ -31,9 +23,9 @@ pub fn seat_all(seats: &mut [u64], count: u16, word: u64)
     requires { (length seats.old ≡ 400) × (count ≤ 400) }
     ensures { seats.new ≡ seated count word }
 {
-    let n = usize::from(count);
-    seats[0..n].fill(word);
-    seats[n..400].fill(0);
+    let (first, others) = seats.split_at_mut(usize::from(count));
+    first.fill(word);
+    others.fill(0);
 }
 
 // The word of a seat of which every stretch is held, of a train with so many stops.
@@ -50,10 +42,6 @@ pub fn lowest(seats: &[u64], trip: Trip) -> Option<Seat>
     ensures { MatchOption result (NoneCovers (λ s. slice_index seats.now s) (length seats.now) trip.from.0 trip.to.0)
         (λ seat. Lowest (λ s. slice_index seats.now s) (length seats.now) trip.from.0 trip.to.0 seat.0) }
 {
-    for (seat, word) in seats.iter().enumerate() {
-        if covers(*word, trip) {
-            return Some(Seat(seat as u16));
-        }
-    }
-    None
+    let seat = seats.iter().position(|word| covers(*word, trip))?;
+    Some(Seat(seat as u16))
 }

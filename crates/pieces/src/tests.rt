@@ -1,16 +1,15 @@
+use crate::change::{PutBack, TakeOut};
+use crate::memory::{Memory, Slot};
 use crate::names::{Seat, Stop, Train};
 use crate::piece::Piece;
 use crate::profile::Profile;
-use crate::seats::{full, lowest, put_in, take_out};
+use crate::seats::{change, full, lowest};
 use crate::trip::Trip;
 use crate::words::leftover;
 use std::test::Fail;
 
 fn trip_of(from: u8, to: u8) -> Result<Trip, Fail> {
-    match Trip::new(Stop(from), Stop(to)) {
-        Some(trip) => Ok(trip),
-        None => Err(Fail::new("no trip")),
-    }
+    Trip::new(Stop(from), Stop(to)).ok_or_else(|| Fail::new("no trip"))
 }
 
 #[test]
@@ -18,12 +17,12 @@ fn takes_the_lowest_seat(rt: HostRuntime) -> Result<(), Fail> {
     let trip = trip_of(1, 3)?;
     let mut seats = [0b0010, full(5), full(5)];
     assert_eq!(rt; lowest(&seats, trip), Some(Seat(1)));
-    take_out(&mut seats, Seat(1), trip);
+    change::<TakeOut>(&mut seats, Seat(1), trip);
     assert_eq!(rt; seats[1], 0b1001);
     assert_eq!(rt; lowest(&seats, trip), Some(Seat(2)));
     assert_eq!(rt; leftover(seats[2], trip), Some(2));
     assert_eq!(rt; Profile::count(&seats).held[1], 2);
-    put_in(&mut seats, Seat(1), trip);
+    change::<PutBack>(&mut seats, Seat(1), trip);
     assert_eq!(rt; seats[1], full(5));
     Ok(())
 }
@@ -38,5 +37,25 @@ fn cuts_a_piece(rt: HostRuntime) -> Result<(), Fail> {
         piece.cut(trip),
         Some((None, Some(Piece::new(Train(7), Seat(2), rest))))
     );
+    Ok(())
+}
+
+#[test]
+fn opens_a_train(rt: HostRuntime) -> Result<(), Fail> {
+    let trip = trip_of(1, 3)?;
+    let Some(slot) = Slot::new(63) else {
+        return Err(Fail::new("no slot"));
+    };
+    assert_eq!(rt; Slot::new(64), None);
+    let mut memory = Memory::new(rt.alloc())?;
+    assert_eq!(rt; memory.lowest(slot, 2, trip), None);
+    memory.open(slot, 2, full(5));
+    memory.change::<TakeOut>(slot, Seat(0), trip);
+    assert_eq!(rt; memory.lowest(slot, 2, trip), Some(Seat(1)));
+    assert_eq!(rt; memory.holds(slot, Seat(0), Stop(3)), true);
+    assert_eq!(rt; memory.train(slot)[1], full(5));
+    memory.change_all::<PutBack>(slot, &[Seat(0), Seat(2)], trip);
+    assert_eq!(rt; memory.covers(slot, Seat(0), trip), true);
+    assert_eq!(rt; memory.covers(slot, Seat(400), trip), false);
     Ok(())
 }

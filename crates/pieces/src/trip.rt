@@ -5,7 +5,7 @@ use crate::names::Stop;
 
 pub mod makes;
 
-#[derive(Clone, Copy, Drop)]
+#[derive(Clone, Copy, Debug, PartialEq, Eq, Drop)]
 pub struct Trip {
     pub from: Stop,
     pub to: Stop,

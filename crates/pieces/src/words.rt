@@ -9,7 +9,7 @@ use crate::trip::Trip;
 pub fn held(word: u64, stop: Stop) -> bool
     ensures { result ≡ holds word stop.0 }
 {
-    stop.0 < 64 && (word >> stop.0) & 1 == 1
+    word.unbounded_shr(u32::from(stop.0)) & 1 == 1
 }
 
 // The word with just the stretches of the trip.
@@ -57,11 +57,12 @@ fn run_start(word: u64, from: Stop) -> u8
     ensures value { result + before word from.0 ≡ from.0 }
     ensures run { FirstOf word from.0 result }
 {
-    let mut start = from.0;
-    while start > 0 && held(word, Stop(start - 1)) {
-        start -= 1;
-    }
-    start
+    // No stretch from 64 on is held.
+    let Some(above) = 64u8.checked_sub(from.0) else {
+        return from.0;
+    };
+    let run = word.unbounded_shl(u32::from(above)).leading_ones() as u8;
+    from.0 - run
 }
 
 // The stop where the run of held stretches ends that begins at stop `to`: 29 at most.
@@ -93,8 +94,6 @@ pub fn leftover(word: u64, trip: Trip) -> Option<u8>
     ensures { MatchOption result (Covers word trip.from.0 trip.to.0 → ⊥)
         (λ n. Covers word trip.from.0 trip.to.0 × (n ≡ spare word trip.from.0 trip.to.0) × Beside word trip.from.0 trip.to.0 n) }
 {
-    if !covers(word, trip) {
-        return None;
-    }
-    Some(trip.from.0 - run_start(word, trip.from) + (run_end(word, trip.to) - trip.to.0))
+    let run = run_around(word, trip)?;
+    Some(trip.from.0 - run.from.0 + (run.to.0 - trip.to.0))
 }

@@ -1,18 +1,18 @@
 -- A stretch of a seat counted in what a station has sold and in what waits, one place at a time.
 -- Assumes nothing.
-use Rattle.std.proofs.Common.{◌≡◌, ℕ, ◌+◌, ◌-◌, ◌<◌, ◌≤◌, Bool, true, false, cond, ◌&&◌, ltb, ◌⊎◌, List, [], ◌∷◌, ◌++◌, map, length, get_or, drop, replicate, sym, refl, ap, ◌∙◌, subst, ap₂, inl, inr, append_assoc, append-nil, add-one, arith}
+use Rattle.giving.specs.declared.ids.Number.{Number}
+use Rattle.giving.specs.declared.channels.Channels.{Channels}
+use Rattle.giving.specs.Posts.{chans}
+use Rattle.giving.specs.Channels.{line}
+use Rattle.std.proofs.Common.{ap₂, drop, ◌-◌, ◌≡◌, count_by, ℕ, ◌<◌, Bool, true, false, cond, ◌&&◌, ltb, ◌⊎◌, List, [], ◌∷◌, ◌++◌, map, length, get_or, sym, refl, ap, ◌∙◌, subst, inl, inr, append_assoc, append-nil, arith, Some, None, Option}
 use mathlib.Core.Bool.{Bool-set}
 use mathlib.Core.Logic.{∥∥₁_elim}
-use Rattle.giving.specs.Channels.{line}
-use Rattle.giving.specs.Posts.{chans}
-use Rattle.giving.specs.declared.channels.Channels.{Channels}
-use Rattle.giving.specs.declared.ids.Number.{Number}
 use Rattle.giving.specs.declared.message.Message.{Message}
-use Rattle.network.proofs.Count.{one, count_nil, count_cons, count_append}
 use Rattle.network.proofs.Held.{Sound, in_shut}
 use Rattle.network.proofs.Linked.{ok_reach}
-use Rattle.network.specs.Places.{holding, count_in, piece_of, standing, under_way, gather}
+use Rattle.network.specs.Places.{under_way, holding, count_in, standing}
 use Rattle.pieces.specs.Memory.{word_at}
+use Rattle.pieces.specs.Parts.{has}
 use Rattle.pieces.specs.Stretches.{holds}
 use Rattle.pieces.specs.declared.names.Train.{Train}
 use Rattle.pieces.specs.declared.piece.Piece.{Piece}
@@ -20,43 +20,27 @@ use Rattle.rehearsal.proofs.Living.{here_is}
 use Rattle.rehearsal.specs.Lives.{Lives, shown, nowhere}
 use Rattle.rehearsal.specs.declared.post.Post.{Post}
 use Rattle.state.specs.States.{State, place, is_open}
-use Rattle.state.specs.declared.record.Sale.{Sale}
-use Rattle.state.specs.declared.record.Sale.TheVariants.{Stands, Returned}
-use Rattle.std.proofs.lemmas.List.{at_drop_more, at_drop_all, replicate_more}
+use Rattle.std.proofs.lemmas.Grind.{common_steps}
 use Rattle.std.proofs.lemmas.Bool.{cases_Bool, lt-ltb}
 use Rattle.timetable.specs.Rows.{Table}
 
-module _ (t : Train) (s u : ℕ) where
-  -- ---- tickets
+-- ---- a stretch counted by the library's words
 
-  standing_cons : (x : Sale) (xs : List Sale) → count_in t s u (standing (x ∷ xs)) ≡ count_in t s u (piece_of x) + count_in t s u (standing xs)
-  unfolding standing
-  standing_cons x xs = count_append t s u (piece_of x) (standing xs)
+-- the ticket stands and has the stretch
+abbrev pub stands : Train → (s u : ℕ) → Option Piece → Bool
+stands t s u (Some p) = has t.0 s u p
+stands t s u None = false
 
-  sold_step : (xs : List Sale) (k : ℕ) → k < length xs → count_in t s u (standing (drop k xs)) ≡ count_in t s u (piece_of (get_or xs k Returned)) + count_in t s u (standing (drop (k + 1) xs))
-  sold_step xs k l = at_drop_more (λ ys. count_in t s u (standing ys)) xs k Returned l ∙ standing_cons (get_or xs k Returned) (drop (k + 1) xs)
+pub waiting_counted : (t : Train) (s u : ℕ) (ps : List Piece) → count_by (has t.0 s u) ps ≡ count_in t s u ps
+unfolding count_in
+waiting_counted t s u [] = grind (arith, common_steps)
+waiting_counted t s u (p ∷ ps) = let h = waiting_counted t s u ps in grind (arith, common_steps)
 
-  pub sold_stands : (xs : List Sale) (k : ℕ) (p : Piece) → k < length xs → Stands p ≡ get_or xs k Returned → count_in t s u (standing (drop k xs)) ≡ one t s u p + count_in t s u (standing (drop (k + 1) xs))
-  sold_stands xs k p l e = omega (arith, sold_step xs k l, ap (λ x. count_in t s u (piece_of x)) e, count_cons t s u p [], count_nil t s u)
-
-  pub sold_returned : (xs : List Sale) (k : ℕ) → k < length xs → Returned ≡ get_or xs k Returned → count_in t s u (standing (drop k xs)) ≡ count_in t s u (standing (drop (k + 1) xs))
-  sold_returned xs k l e = omega (arith, sold_step xs k l, ap (λ x. count_in t s u (piece_of x)) e, count_nil t s u)
-
-  pub sold_all : (xs : List Sale) (k : ℕ) → length xs ≤ k → count_in t s u (standing (drop k xs)) ≡ 0
-  unfolding standing
-  sold_all xs k l = at_drop_all (λ ys. count_in t s u (standing ys)) xs k l ∙ count_nil t s u
-
-  -- ---- pieces
-
-  pub waits_step : (ps : List Piece) (k : ℕ) (d p : Piece) → k < length ps → p ≡ get_or ps k d → count_in t s u (drop k ps) ≡ one t s u p + count_in t s u (drop (k + 1) ps)
-  waits_step ps k d p l e = omega (arith, at_drop_more (count_in t s u) ps k d l ∙ count_cons t s u (get_or ps k d) (drop (k + 1) ps), ap (one t s u) e)
-
-  pub waits_all : (ps : List Piece) (k : ℕ) → length ps ≤ k → count_in t s u (drop k ps) ≡ 0
-  waits_all ps k l = at_drop_all (count_in t s u) ps k l ∙ count_nil t s u
-
--- the same one more time
-pub again_more : {A : Type 0} (xs ys zs : List A) (k : ℕ) (p : A) → ys ≡ xs ++ replicate k p → zs ≡ ys ++ p ∷ [] → zs ≡ xs ++ replicate (k + 1) p
-again_more xs ys zs k p e f = f ∙ ap (λ l. l ++ p ∷ []) e ∙ append_assoc xs (replicate k p) (p ∷ []) ∙ ap (λ l. xs ++ l) (replicate_more k p)
+pub sold_counted : (t : Train) (s u : ℕ) (xs : List (Option Piece)) → count_by (stands t s u) xs ≡ count_in t s u (standing xs)
+unfolding count_in standing
+sold_counted t s u [] = grind (arith, common_steps)
+sold_counted t s u (Some p ∷ xs) = let h = sold_counted t s u xs in grind (arith, common_steps)
+sold_counted t s u (None ∷ xs) = let h = sold_counted t s u xs in grind (arith, common_steps)
 
 -- ---- stations as they were read
 
@@ -76,7 +60,7 @@ module _ (t : Train) (s u : ℕ) (l : s < 400) where
   none_held false e = refl
 
   -- a train that is not open is not held
-  pub held_is : (x : State) → Sound x → (ltb s 400 && (is_open x t && holds (word_at x.words (place x t) s) u)) ≡ holding t s u x
+  held_is : (x : State) → Sound x → (ltb s 400 && (is_open x t && holds (word_at x.words (place x t) s) u)) ≡ holding t s u x
   held_is x sound = rw (lt-ltb s 400 l) (go (cases_Bool (is_open x t)))
     where
       go : (is_open x t ≡ true) ⊎ (is_open x t ≡ false) → (is_open x t && holding t s u x) ≡ holding t s u x
@@ -91,18 +75,6 @@ held_at tb ps ms lives t s u l i p b e =
     ∙ ∥∥₁_elim lives (Bool-set _ _) (λ v. held_is t s u l (get_or (map shown ps) i nowhere) (subst Sound (sym (v.faithful i b)) ((ok_reach (length ps) tb v.reached).fine i).sound))
 
 -- ---- one list behind another
-
-pub found_none : {A : Type 0} (xs : List A) (f : ℕ → List A) → xs ≡ xs ++ gather 0 f
-unfolding gather
-found_none xs f = sym (append-nil xs)
-
-gather_more : {A : Type 0} (k : ℕ) (f : ℕ → List A) → gather (k + 1) f ≡ gather k f ++ f k
-unfolding gather
-gather_more k f = ap (λ (n : ℕ). gather n f) (add-one k)
-
--- a part more is found
-pub found_more : {A : Type 0} (xs ys zs : List A) (k : ℕ) (f : ℕ → List A) → ys ≡ xs ++ gather k f → zs ≡ ys ++ f k → zs ≡ xs ++ gather (k + 1) f
-found_more xs ys zs k f e g = g ∙ ap (λ l. l ++ f k) e ∙ append_assoc xs (gather k f) (f k) ∙ ap (λ l. xs ++ l) (sym (gather_more k f))
 
 pub found_three : {A : Type 0} (xs ys zs vs a b c : List A) → ys ≡ xs ++ a → zs ≡ ys ++ b → vs ≡ zs ++ c → vs ≡ xs ++ (a ++ (b ++ c))
 found_three xs ys zs vs a b c e f g = g ∙ ap (λ l. l ++ c) (f ∙ ap (λ l. l ++ b) e) ∙ append_assoc (xs ++ a) b c ∙ append_assoc xs a (b ++ c)

@@ -1,3 +1,4 @@
+pub mod Gathered
 pub mod Living
 pub mod Speaking
 pub mod Finding

@@ -1,7 +1,8 @@
 -- A world in memory after a call of one of its stations, and after something was said.
 -- Assumes nothing.
-use Rattle.std.proofs.Common.{◌≡◌, ℕ, zero, suc, ◌+◌, ◌<◌, ◌≤◌, Bool, true, false, cond, ◌⊎◌, List, [], ◌∷◌, ◌++◌, map, length, get_or, set, replicate, Some, fold, sym, refl, ap, ◌∙◌, subst, ap₂, inl, inr, ⊎_elim, append-nil, arith, length-append, length-set, get_or-set_other, get_or-set_same}
+use Rattle.std.proofs.Common.{◌≡◌, ℕ, zero, suc, ◌+◌, ◌<◌, Bool, true, false, cond, ◌⊎◌, List, [], ◌∷◌, ◌++◌, map, length, get_or, set, replicate, Some, fold, sym, refl, ap, ◌∙◌, subst, ap₂, inl, inr, ⊎_elim, append-nil, arith, length-set, get_or-set_other, get_or-set_same, Ok, Err, ◌≤◌, length-append}
 use mathlib.Core.List.{Memᴰ}
+use mathlib.Core.Logic.{∥∥₁_elim, ∥∥₁_map, ∥∥₁_prop}
 use lib.ListN.{length-map, get_or-append}
 use lib.Seq.{map-set, get_or_at}
 use Rattle.giving.proofs.Mapped.{map_at}
@@ -11,10 +12,9 @@ use Rattle.giving.specs.declared.message.Body.{Body}
 use Rattle.giving.specs.declared.message.Body.TheVariants as body
 use Rattle.giving.specs.declared.message.Message.{Message}
 use Rattle.ledger.proofs.Decided.{opens_admitted}
-use Rattle.ledger.specs.Decisions.{decided, decided_open, listing, after, records, messages, for_memory}
+use Rattle.ledger.specs.Decisions.{Answer, decided, decided_open, listing, after, records, messages, for_memory}
 use Rattle.ledger.specs.declared.input.Input.{Input}
-use Rattle.ledger.specs.declared.input.Outcome.{Outcome}
-use Rattle.ledger.specs.declared.input.Outcome.TheVariants.{Done, Nothing, Passed, Refused}
+use Rattle.ledger.specs.declared.input.Outcome.TheVariants.{Done, Nothing, Passed}
 use Rattle.network.proofs.Bridge.{calls_any, opening, steps_then, put_extends}
 use Rattle.network.proofs.Grow.{grows}
 use Rattle.network.proofs.Lists.{slice_index_same}
@@ -27,45 +27,67 @@ use Rattle.network.specs.Worlds.{journal, state, channel, reminder, reminds, Ste
 use Rattle.pieces.specs.Parts.{blank}
 use Rattle.pieces.specs.declared.names.Train.{Train}
 use Rattle.pieces.specs.declared.piece.Piece.{Piece}
+use Rattle.rehearsal.proofs.Gathered.{gather_cong}
 use Rattle.rehearsal.specs.Lives.{Lives, shown, journal_of, world_of, nowhere}
-use Rattle.rehearsal.specs.Seen.{input_of}
+use Rattle.ledger.specs.Calls.{input_of}
 use Rattle.rehearsal.specs.declared.post.Post.{Post}
 use Rattle.state.specs.Changes.{apply}
 use Rattle.state.specs.States.{State, begun, is_open, was_closed}
 use Rattle.state.specs.declared.record.Record.{Record}
-use Rattle.std.proofs.lemmas.List.{map_push, replicate_more, get_or_past, get_or_default}
+use Rattle.std.proofs.lemmas.List.{get_or_past, get_or_default, map_push, replicate_more}
 use Rattle.std.proofs.lemmas.List.Sums.{fold_push}
 use Rattle.std.proofs.lemmas.Bool.{cases_eq, cases_lt, false≢true}
 use Rattle.timetable.specs.Rows.{Table, stretches}
 use Rattle.timetable.specs.declared.row.Row.{Row}
 
+-- ---- a station as it was read, and as it is written
+
+module _ (ps : List Post) (i : ℕ) (p : Post) (b : i < length ps) (e : p ≡ get_or ps i p) where
+  pub here_is : get_or (map shown ps) i nowhere ≡ shown p
+  here_is = map_at shown ps i p nowhere b e
+
+  same_post : (r : Post) → r ≡ get_or ps i r → p ≡ r
+  same_post r f = e ∙ get_or_default ps i p r b ∙ sym f
+
+  -- what holds of the station as it was read
+  pub at_post : (P : Post → State → Type 0) → P p (shown p) → (r : Post) → r ≡ get_or ps i r → P r (get_or (map shown ps) i nowhere)
+  at_post P h r f = subst (λ z. P z (get_or (map shown ps) i nowhere)) (same_post r f) (subst (P p) (sym here_is) h)
+
+  pub states_are : (tb : Table) (q : Post) (o : Answer) → shown q ≡ after tb (shown p) o → map shown (set ps i q) ≡ set (map shown ps) i (after tb (get_or (map shown ps) i nowhere) o)
+  states_are tb q o v = map-set shown ps i q ∙ ap (set (map shown ps) i) (v ∙ ap (λ s. after tb s o) (sym here_is))
+
+  pub journals_then : (q : Post) (o : Answer) → journal_of q ≡ journal_of p ++ records o → map journal_of (set ps i q) ≡ set (map journal_of ps) i (get_or (map journal_of ps) i [] ++ records o)
+  journals_then q o j = map-set journal_of ps i q ∙ ap (set (map journal_of ps) i) (j ∙ ap (λ l. l ++ records o) (sym (map_at journal_of ps i p [] b e)))
+
+  pub said_then : (tb : Table) (q : Post) (o : Answer) (x : Input) (ms ns : List Message) → shown q ≡ after tb (shown p) o → ns ≡ ms ++ messages (shown q) x o → ns ≡ ms ++ messages (after tb (get_or (map shown ps) i nowhere) o) x o
+  said_then tb q o x ms ns v m = m ∙ ap (λ s. ms ++ messages s x o) (v ∙ ap (λ s. after tb s o) (sym here_is))
+
+-- ---- a world that lives
+
 module _ (tb : Table) (ps : List Post) (ms : List Message) (lives : Lives tb ps ms) where
   -- a station as it is read
-  pub shown_is : (i : ℕ) (p : Post) → i < length ps → p ≡ get_or ps i p → shown p ≡ state (length ps) tb (world_of ps ms) i
-  shown_is i p b e = sym (map_at shown ps i p nowhere b e) ∙ lives.faithful i b
+  shown_is : (i : ℕ) (p : Post) → i < length ps → p ≡ get_or ps i p → shown p ≡ state (length ps) tb (world_of ps ms) i
+  shown_is i p b e = sym (here_is ps i p b e) ∙ lives.faithful i b
 
-  module _ (i : ℕ) (p q : Post) (b : i < length ps) (e : p ≡ get_or ps i p) (o : Outcome) (j : journal_of q ≡ journal_of p ++ records o) where
-    journals_are : map journal_of (set ps i q) ≡ set (map journal_of ps) i (journal (world_of ps ms) i ++ records o)
-    journals_are = map-set journal_of ps i q ∙ ap (set (map journal_of ps) i) (j ∙ ap (λ l. l ++ records o) (sym (map_at journal_of ps i p [] b e)))
-
+  module _ (i : ℕ) (p q : Post) (b : i < length ps) (e : p ≡ get_or ps i p) (o : Answer) (j : journal_of q ≡ journal_of p ++ records o) where
     -- the states follow the journals
     follow : (ub : Table) (ns : List Message) → ((k : ℕ) → state (length ps) tb (world_of ps ms) k ≡ state (length ps) ub (world_of ps ms) k) → shown q ≡ after ub (shown p) o → Reach (length ps) ub (world_of (set ps i q) ns) → Lives ub (set ps i q) ns
     follow ub ns same v r =
         record {
           reached = subst (λ (n : ℕ). Reach n ub (world_of (set ps i q) ns)) (sym (length-set ps i q)) r;
           faithful = λ k l. ap (λ xs. get_or xs k nowhere) (map-set shown ps i q) ∙ go k (subst (λ (n : ℕ). k < n) (length-set ps i q) l) (cases_eq k i)
-              ∙ ap (λ js. fold (apply ub) (begun (length ps) k) (get_or js k [])) (sym journals_are) ∙ ap (λ (n : ℕ). state n ub (world_of (set ps i q) ns) k) (sym (length-set ps i q));
+              ∙ ap (λ js. fold (apply ub) (begun (length ps) k) (get_or js k [])) (sym (journals_then ps i p b e q o j)) ∙ ap (λ (n : ℕ). state n ub (world_of (set ps i q) ns) k) (sym (length-set ps i q));
         }
       where
         js : List Record
         js = journal (world_of ps ms) i ++ records o
 
         -- the records of an outcome, and what they make of a state
-        made : (x : State) (l : List Record) (o : Outcome) → fold (apply ub) x (l ++ records o) ≡ after ub (fold (apply ub) x l) o
-        made x l (Done z) = fold_push (apply ub) x l z
-        made x l Nothing = ap (fold (apply ub) x) (append-nil l)
-        made x l (Passed z) = ap (fold (apply ub) x) (append-nil l)
-        made x l (Refused z) = ap (fold (apply ub) x) (append-nil l)
+        made : (x : State) (l : List Record) (o : Answer) → fold (apply ub) x (l ++ records o) ≡ after ub (fold (apply ub) x l) o
+        made x l (Ok (Done z)) = fold_push (apply ub) x l z
+        made x l (Ok Nothing) = ap (fold (apply ub) x) (append-nil l)
+        made x l (Ok (Passed z)) = ap (fold (apply ub) x) (append-nil l)
+        made x l (Err z) = ap (fold (apply ub) x) (append-nil l)
 
         go : (k : ℕ) → k < length ps → (k ≡ i) ⊎ (k ≡ i → ⊥) → get_or (set (map shown ps) i (shown q)) k nowhere ≡ fold (apply ub) (begun (length ps) k) (get_or (set (map journal_of ps) i (journal (world_of ps ms) i ++ records o)) k [])
         go k l (inl d) =
@@ -80,23 +102,23 @@ module _ (tb : Table) (ps : List Post) (ms : List Message) (lives : Lives tb ps 
     pub called_steps : (x : Input) (ns : List Message) → shown q ≡ after tb (shown p) o → ns ≡ ms ++ messages (shown q) x o → Heeds ms i x → (for_memory o ≡ false → o ≡ decided tb (shown p) x) →
         Steps (length ps) tb (world_of ps ms) (world_of (set ps i q) ns)
     called_steps x ns v m h a =
-        subst (Steps (length ps) tb (world_of ps ms)) (ap₂ (λ js l. record { journals = js; said = l }) (sym journals_are) (sym (m ∙ ap (λ s. ms ++ messages s x o) (v ∙ ap (λ s. after tb s o) (shown_is i p b e)))))
+        subst (Steps (length ps) tb (world_of ps ms)) (ap₂ (λ js l. record { journals = js; said = l }) (sym (journals_then ps i p b e q o j)) (sym (m ∙ ap (λ s. ms ++ messages s x o) (v ∙ ap (λ s. after tb s o) (shown_is i p b e)))))
         (calls_any (length ps) tb (world_of ps ms) lives.reached i x o b h (λ f. a f ∙ ap (λ s. decided tb s x) (shown_is i p b e)))
 
     pub called_lives : (x : Input) (ns : List Message) → shown q ≡ after tb (shown p) o → ns ≡ ms ++ messages (shown q) x o → Heeds ms i x → (for_memory o ≡ false → o ≡ decided tb (shown p) x) → Lives tb (set ps i q) ns
     called_lives x ns v m h a = follow tb ns (λ k. refl) v (steps_then lives.reached (called_steps x ns v m h a))
 
     -- an opening
-    extends : (r : Row) (o : Outcome) → (for_memory o ≡ false → o ≡ decided_open tb (shown p) r) → Extends tb (listing tb r o)
-    extends r (Done z) a = put_extends tb r (opens_admitted tb (shown p) r z (sym (a refl)))
-    extends r Nothing a = λ k q f. f
-    extends r (Passed z) a = λ k q f. f
-    extends r (Refused z) a = λ k q f. f
+    extends : (r : Row) (o : Answer) → (for_memory o ≡ false → o ≡ decided_open tb (shown p) r) → Extends tb (listing tb r o)
+    extends r (Ok (Done z)) a = put_extends tb r (opens_admitted tb (shown p) r z (sym (a refl)))
+    extends r (Ok Nothing) a = λ k q f. f
+    extends r (Ok (Passed z)) a = λ k q f. f
+    extends r (Err z) a = λ k q f. f
 
     pub opened_steps : (r : Row) (ub : Table) → ub ≡ listing tb r o → (for_memory o ≡ false → o ≡ decided_open tb (shown p) r) → Steps (length ps) ub (world_of ps ms) (world_of (set ps i q) ms)
     opened_steps r ub u a =
         subst (λ tb. Steps (length ps) tb (world_of ps ms) (world_of (set ps i q) ms)) (sym u)
-        (subst (Steps (length ps) (listing tb r o) (world_of ps ms)) (ap (λ js. record { journals = js; said = ms }) (sym journals_are))
+        (subst (Steps (length ps) (listing tb r o) (world_of ps ms)) (ap (λ js. record { journals = js; said = ms }) (sym (journals_then ps i p b e q o j)))
         (opening (length ps) tb (world_of ps ms) lives.reached i r b o (λ f. a f ∙ ap (λ s. decided_open tb s r) (shown_is i p b e))))
 
     pub opened_lives : (r : Row) (ub : Table) → ub ≡ listing tb r o → shown q ≡ after ub (shown p) o → (for_memory o ≡ false → o ≡ decided_open tb (shown p) r) → Lives ub (set ps i q) ms
@@ -106,7 +128,7 @@ module _ (tb : Table) (ps : List Post) (ms : List Message) (lives : Lives tb ps 
 
   -- ---- something is said
 
-  pub reminds_step : (i : ℕ) (j : StationId) (k : ℕ) (p : Post) (n : Number) (piece : Piece) → i < length ps → p ≡ get_or ps i p → k < length (channel (shown p) j.0).waiting →
+  reminds_step : (i : ℕ) (j : StationId) (k : ℕ) (p : Post) (n : Number) (piece : Piece) → i < length ps → p ≡ get_or ps i p → k < length (channel (shown p) j.0).waiting →
       n ≡ record { 0 = (channel (shown p) j.0).heard + 1 + k } → piece ≡ get_or (channel (shown p) j.0).waiting k blank →
       Steps (length ps) tb (world_of ps ms) (world_of ps (ms ++ record { from = record { 0 = i }; to = j; body = body.Given n piece } ∷ []))
   reminds_step i j k p n piece b e l f g =
@@ -116,50 +138,28 @@ module _ (tb : Table) (ps : List Post) (ms : List Message) (lives : Lives tb ps 
           Steps (length ps) tb (world_of ps ms) (world_of ps (ms ++ record { from = record { 0 = i }; to = j; body = body.Given (record { 0 = (channel s j.0).heard + 1 + k }) (get_or (channel s j.0).waiting k blank) } ∷ []))
       go s d l = rw d (more none (reminds (world_of ps ms) i j.0 k (rw d at l)))
 
-  pub said_lives : (ns : List Message) → Steps (length ps) tb (world_of ps ms) (world_of ps ns) → Lives tb ps ns
-  said_lives ns s = record { reached = steps_then lives.reached s; faithful = lives.faithful }
+-- nothing was said
+pub silent : (n : ℕ) (tb : Table) (js : List (List Record)) (ms ns : List Message) → ns ≡ ms → Steps n tb (record { journals = js; said = ms }) (record { journals = js; said = ns })
+silent n tb js ms ns e = subst (λ l. Steps n tb (record { journals = js; said = ms }) (record { journals = js; said = l })) (sym e) none
 
--- ---- a station as it was read, and as it is written
+-- what waits at a place was said again, where there was memory
+pub reminded : (tb : Table) (ps : List Post) (ms ns : List Message) → ∥ Lives tb ps ms ∥₁ → (i : ℕ) (j : StationId) (k : ℕ) (p : Post) (n : Number) (piece : Piece) → i < length ps → p ≡ get_or ps i p →
+    k < length (channel (shown p) j.0).waiting → n ≡ record { 0 = (channel (shown p) j.0).heard + 1 + k } → piece ≡ get_or (channel (shown p) j.0).waiting k blank →
+    (r : Bool) → ns ≡ cond r (ms ++ record { from = record { 0 = i }; to = j; body = body.Given n piece } ∷ []) ms → ∥ Steps (length ps) tb (world_of ps ms) (world_of ps ns) ∥₁
+reminded tb ps ms ns lives i j k p n piece b e l f g true h =
+    subst (λ (m : List Message). ∥ Steps (length ps) tb (world_of ps ms) (world_of ps m) ∥₁) (sym h) (∥∥₁_map lives (λ v. reminds_step tb ps ms v i j k p n piece b e l f g))
+reminded tb ps ms ns lives i j k p n piece b e l f g false h = ∣ silent (length ps) tb (map journal_of ps) ms ns h ∣₁
 
-module _ (ps : List Post) (i : ℕ) (p : Post) (b : i < length ps) (e : p ≡ get_or ps i p) where
-  pub here_is : get_or (map shown ps) i nowhere ≡ shown p
-  here_is = map_at shown ps i p nowhere b e
-
-  pub same_post : (r : Post) → r ≡ get_or ps i r → p ≡ r
-  same_post r f = e ∙ get_or_default ps i p r b ∙ sym f
-
-  -- what holds of the station as it was read
-  pub at_post : (P : Post → State → Type 0) → P p (shown p) → (r : Post) → r ≡ get_or ps i r → P r (get_or (map shown ps) i nowhere)
-  at_post P h r f = subst (λ z. P z (get_or (map shown ps) i nowhere)) (same_post r f) (subst (P p) (sym here_is) h)
-
-  pub states_are : (tb : Table) (q : Post) (o : Outcome) → shown q ≡ after tb (shown p) o → map shown (set ps i q) ≡ set (map shown ps) i (after tb (get_or (map shown ps) i nowhere) o)
-  states_are tb q o v = map-set shown ps i q ∙ ap (set (map shown ps) i) (v ∙ ap (λ s. after tb s o) (sym here_is))
-
-  pub journals_then : (q : Post) (o : Outcome) → journal_of q ≡ journal_of p ++ records o → map journal_of (set ps i q) ≡ set (map journal_of ps) i (get_or (map journal_of ps) i [] ++ records o)
-  journals_then q o j = map-set journal_of ps i q ∙ ap (set (map journal_of ps) i) (j ∙ ap (λ l. l ++ records o) (sym (map_at journal_of ps i p [] b e)))
-
-  pub said_then : (tb : Table) (q : Post) (o : Outcome) (x : Input) (ms ns : List Message) → shown q ≡ after tb (shown p) o → ns ≡ ms ++ messages (shown q) x o → ns ≡ ms ++ messages (after tb (get_or (map shown ps) i nowhere) o) x o
-  said_then tb q o x ms ns v m = m ∙ ap (λ s. ms ++ messages s x o) (v ∙ ap (λ s. after tb s o) (sym here_is))
-
--- a message that was pushed, where there was memory
-pub pushed : (n : ℕ) (tb : Table) (js : List (List Record)) (ms ns : List Message) (m : Message) (b : Bool) → ns ≡ cond b (ms ++ m ∷ []) ms →
-    Steps n tb (record { journals = js; said = ms }) (record { journals = js; said = ms ++ m ∷ [] }) → Steps n tb (record { journals = js; said = ms }) (record { journals = js; said = ns })
-pushed n tb js ms ns m true e s = subst (λ l. Steps n tb (record { journals = js; said = ms }) (record { journals = js; said = l })) (sym e) s
-pushed n tb js ms ns m false e s = subst (λ l. Steps n tb (record { journals = js; said = ms }) (record { journals = js; said = l })) (sym e) none
-
-pub said_or_not : (ms ns : List Message) (m q : Message) (b r : Bool) → ns ≡ cond b (ms ++ m ∷ []) ms → r ≡ b → m ≡ q → ns ≡ ms ++ cond r (q ∷ []) []
-said_or_not ms ns m q b r e f g = e ∙ go b ∙ ap (λ c. ms ++ cond c (q ∷ []) []) (sym f)
-  where
-    go : (b : Bool) → cond b (ms ++ m ∷ []) ms ≡ ms ++ cond b (q ∷ []) []
-    go true = ap (λ z. ms ++ z ∷ []) g
-    go false = sym (append-nil ms)
+pub said_lives : (tb : Table) (ps : List Post) (ms ns : List Message) → ∥ Lives tb ps ms ∥₁ → ∥ Steps (length ps) tb (world_of ps ms) (world_of ps ns) ∥₁ → ∥ Lives tb ps ns ∥₁
+said_lives tb ps ms ns lives steps =
+    ∥∥₁_elim lives ∥∥₁_prop (λ v. ∥∥₁_map steps (λ s. record { reached = steps_then v.reached s; faithful = v.faithful }))
 
 -- what a station says of what waits at a place
 pub remind_is : (ps : List Post) (i : ℕ) (p : Post) → i < length ps → p ≡ get_or ps i p → (j : StationId) (k : ℕ) (n : Number) (q : Piece) →
     n ≡ record { 0 = (channel (shown p) j.0).heard + 1 + k } → q ≡ get_or (channel (shown p) j.0).waiting k blank →
     record { from = record { 0 = i }; to = j; body = body.Given n q } ≡ reminder (get_or (map shown ps) i nowhere) i j.0 k
 remind_is ps i p b e j k n q f g =
-    ap₂ (λ n q. record { from = record { 0 = i }; to = j; body = body.Given n q }) f g ∙ ap (λ s. reminder s i j.0 k) (sym (map_at shown ps i p nowhere b e))
+    ap₂ (λ n q. record { from = record { 0 = i }; to = j; body = body.Given n q }) f g ∙ ap (λ s. reminder s i j.0 k) (sym (here_is ps i p b e))
 
 -- what was said can be told
 mem_slice_index : {A : Type 0} (xs : List A) (i : ℕ) (d : A) → i < length xs → Memᴰ (get_or xs i d) xs
@@ -171,15 +171,10 @@ heeds_said : (ms : List Message) (i : ℕ) (f t : StationId) (x : Body) → t.0 
 heeds_said ms i f t (body.Given n p) e m = subst (λ (k : ℕ). Memᴰ (record { from = f; to = record { 0 = k }; body = body.Given n p }) ms) e m
 heeds_said ms i f t (body.Taken n) e m = subst (λ (k : ℕ). Memᴰ (record { from = f; to = record { 0 = k }; body = body.Taken n }) ms) e m
 
-pub told_from : (ms : List Message) (k : ℕ) (m d : Message) → k < length ms → m ≡ get_or ms k d → Heeds ms m.to.0 (input_of m.from m.body)
-told_from ms k m d l e = heeds_said ms m.to.0 m.from m.to m.body refl (subst (λ y. Memᴰ y ms) (sym e) (mem_slice_index ms k d l))
+pub told_from : (ms : List Message) (k : ℕ) (m d : Message) (i : ℕ) (x : Input) → k < length ms → m ≡ get_or ms k d → i ≡ m.to.0 → x ≡ input_of m.from m.body → Heeds ms i x
+told_from ms k m d i x l e f g = rw g (heeds_said ms i m.from m.to m.body (sym f) (subst (λ y. Memᴰ y ms) (sym e) (mem_slice_index ms k d l)))
 
 -- ---- where a stretch is
-
-gather_cong : {A : Type 0} (n : ℕ) (f g : ℕ → List A) → ((k : ℕ) → k < n → f k ≡ g k) → gather n f ≡ gather n g
-unfolding gather
-gather_cong zero f g h = refl
-gather_cong (suc n) f g h = ap₂ (λ xs ys. xs ++ ys) (gather_cong n f g (λ k l. h k (omega arith))) (h n (omega arith))
 
 places_cong : (n : ℕ) (t : Train) (s u : ℕ) (f g : ℕ → State) → ((k : ℕ) → k < n → f k ≡ g k) → places n t s u f ≡ places n t s u g
 places_cong n t s u f g h =
@@ -205,10 +200,7 @@ pub record Begun (n : ℕ) (ps : List Post) : Type 0 where
   pub journals : map journal_of ps ≡ replicate (length ps) []
   pub states : (k : ℕ) → k < length ps → get_or (map shown ps) k nowhere ≡ begun n k
 
-pub begun_none : (n : ℕ) → Begun n []
-begun_none n = record { journals = refl; states = λ k l. absurd (omega arith) }
-
-pub begun_push : (n : ℕ) (ps : List Post) (p : Post) → Begun n ps → shown p ≡ begun n (length ps) → journal_of p ≡ [] → Begun n (ps ++ p ∷ [])
+begun_push : (n : ℕ) (ps : List Post) (p : Post) → Begun n ps → shown p ≡ begun n (length ps) → journal_of p ≡ [] → Begun n (ps ++ p ∷ [])
 begun_push n ps p o e j =
     record {
       journals = map_push journal_of ps p ∙ ap₂ (λ xs x. xs ++ x ∷ []) o.journals j ∙ replicate_more (length ps) [] ∙ ap (λ (m : ℕ). replicate m []) (sym (length-append ps (p ∷ [])));

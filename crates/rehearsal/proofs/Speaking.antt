@@ -1,31 +1,31 @@
 -- Things said one after the other.
 -- Assumes nothing.
-use Rattle.std.proofs.Common.{◌≡◌, ℕ, ◌+◌, ◌-◌, ◌≤◌, List, [], ◌∷◌, ◌++◌, map, length, get_or, vec_items, sym, refl, ap, ◌∙◌, subst, append_assoc, append-nil, add-one, arith}
+use Rattle.std.proofs.Common.{◌≡◌, ℕ, ◌+◌, List, [], ◌∷◌, ◌++◌, map, length, get_or, vec_items, sym, refl, ap, ◌∙◌, subst, append_assoc, append-nil, arith, zero, suc, min, take, ◌<◌, ⊎_elim, Ok, Err, Result, MatchResult}
 use mathlib.Core.Logic.{∥∥₁_elim, ∥∥₁_map, ∥∥₁_prop}
 use Rattle.giving.specs.declared.message.Message.{Message}
+use Rattle.giving.specs.declared.refusal.Refusal.{Refusal}
+use Rattle.giving.specs.declared.refusal.Refusal.TheVariants.{Memory}
+use Rattle.std.specs.Result.{IsErrAnd}
+use Rattle.std.proofs.lemmas.Bool.{cases_lt}
+use Rattle.std.proofs.lemmas.List.{take_min, take-append-le}
 use Rattle.network.proofs.Bridge.{steps_then}
 use Rattle.network.specs.Places.{gather}
-use Rattle.network.specs.Worlds.{Steps, none, channel, reminder}
+use Rattle.network.specs.Worlds.{Steps, none}
+use Rattle.rehearsal.proofs.Gathered.{gather_more}
 use Rattle.rehearsal.specs.Lives.{shown, nowhere}
-use Rattle.rehearsal.specs.Seen.{seen, rows, count, state_of, reminders_to, Spoken}
+use Rattle.rehearsal.specs.Seen.{seen, rows, count, state_of, Spoken, Ticked}
 use Rattle.rehearsal.specs.declared.world.World.{World as Code}
+use Rattle.state.specs.States.{State}
 use Rattle.timetable.specs.Tables.{table}
-
-pub gather_none : {A : Type 0} (f : ℕ → List A) → gather 0 f ≡ []
-unfolding gather
-gather_none f = refl
-
-pub gather_more : {A : Type 0} (n : ℕ) (f : ℕ → List A) → gather (n + 1) f ≡ gather n f ++ f n
-unfolding gather
-gather_more n f = ap (λ (m : ℕ). gather m f) (add-one n)
 
 pub spoken_none : (w : Code) → Spoken w w []
 spoken_none w = record { trains = refl; posts = refl; said = sym (append-nil (vec_items w.said)); steps = ∣ none ∣₁ }
 
-pub spoken_as : (w v : Code) (a b : List Message) → a ≡ b → Spoken w v a → Spoken w v b
-spoken_as w v a b e f = subst (Spoken w v) e f
+pub spoken_first : (w : Code) (f : ℕ → List Message) → Spoken w w (gather 0 f)
+unfolding gather
+spoken_first w f = spoken_none w
 
-pub spoken_then : (w v u : Code) (a b : List Message) → Spoken w v a → Spoken v u b → Spoken w u (a ++ b)
+spoken_then : (w v u : Code) (a b : List Message) → Spoken w v a → Spoken v u b → Spoken w u (a ++ b)
 spoken_then w v u a b f g =
     record {
       trains = g.trains ∙ f.trains;
@@ -40,24 +40,44 @@ spoken_then w v u a b f g =
 pub state_same : (w v : Code) (a : List Message) → Spoken w v a → (k : ℕ) → state_of v k ≡ state_of w k
 state_same w v a f k = ap (λ ps. get_or (map shown (vec_items ps)) k nowhere) f.posts
 
--- one more of what waits is said
-pub reminded : (w v u : Code) (i j k : ℕ) → Spoken w v (reminders_to (state_of w i) i j k) → Spoken v u (reminder (state_of v i) i j k ∷ []) → Spoken w u (reminders_to (state_of w i) i j (k + 1))
-reminded w v u i j k f g =
-    spoken_as w u _ _ (sym (gather_more k (λ k. reminder (state_of w i) i j k ∷ [])))
-    (spoken_then w v u _ _ f (spoken_as v u _ _ (ap (λ s. reminder s i j k ∷ []) (state_same w v _ f i)) g))
+-- a part more is said of what station i has
+pub spoken_more : (w v u : Code) (i k : ℕ) (f : State → ℕ → List Message) → Spoken w v (gather k (f (state_of w i))) → Spoken v u (f (state_of v i) k) → Spoken w u (gather (k + 1) (f (state_of w i)))
+spoken_more w v u i k f g h =
+    subst (Spoken w u) (sym (gather_more k (f (state_of w i)))) (spoken_then w v u _ _ g (subst (Spoken v u) (ap (λ s. f s k) (state_same w v _ g i)) h))
 
--- all that waits for one station more is said
-pub ticked : (w v u : Code) (i k : ℕ) → Spoken w v (gather k (λ j. reminders_to (state_of w i) i j (length (channel (state_of w i) j).waiting))) →
-    Spoken v u (reminders_to (state_of v i) i k (length (channel (state_of v i) k).waiting)) → Spoken w u (gather (k + 1) (λ j. reminders_to (state_of w i) i j (length (channel (state_of w i) j).waiting)))
-ticked w v u i k f g =
-    spoken_as w u _ _ (sym (gather_more k (λ j. reminders_to (state_of w i) i j (length (channel (state_of w i) j).waiting))))
-    (spoken_then w v u _ _ f (spoken_as v u _ _ (ap (λ s. reminders_to s i k (length (channel s k).waiting)) (state_same w v _ f i)) g))
+-- ---- where memory was short
 
--- places one after the other
-pub counted_none : {A : Type 0} (xs : List A) (a : ℕ) (f : ℕ → List A) → xs ≡ xs ++ gather (a - a) f
-counted_none xs a f = sym (ap (λ (m : ℕ). xs ++ gather m f) (omega arith) ∙ ap (λ l. xs ++ l) (gather_none f) ∙ append-nil xs)
+-- the first is a first part of the other
+abbrev pub Part : List Message → List Message → Type 0
+Part xs ys = (k : ℕ) × (xs ≡ take k ys)
 
-pub counted_more : (xs ys zs : List ℕ) (a k : ℕ) → a ≤ k → ys ≡ xs ++ gather (k - a) (λ i. (a + i) ∷ []) → zs ≡ ys ++ k ∷ [] → zs ≡ xs ++ gather (k + 1 - a) (λ i. (a + i) ∷ [])
-counted_more xs ys zs a k l e f =
-    f ∙ ap (λ y. y ++ k ∷ []) e ∙ append_assoc xs (gather (k - a) (λ i. (a + i) ∷ [])) (k ∷ [])
-    ∙ ap (λ y. xs ++ y) (ap (λ (m : ℕ). gather (k - a) (λ i. (a + i) ∷ []) ++ m ∷ []) (omega arith) ∙ sym (gather_more (k - a) (λ i. (a + i) ∷ [])) ∙ ap (λ (m : ℕ). gather m (λ i. (a + i) ∷ [])) (omega arith))
+pub nothing_part : (ys : List Message) → Part [] ys
+nothing_part ys = (0, refl)
+
+part_longer : (xs ys zs : List Message) → Part xs ys → Part xs (ys ++ zs)
+part_longer xs ys zs (k, e) = (min k (length ys), e ∙ sym (take_min k ys) ∙ sym (take-append-le (min k (length ys)) ys zs (omega arith)))
+
+part_behind : (xs ys zs : List Message) → Part xs zs → Part (ys ++ xs) (ys ++ zs)
+part_behind xs [] zs p = p
+part_behind xs (y ∷ ys) zs p = let (k, e) = part_behind xs ys zs p in (suc k, ap (λ l. y ∷ l) e)
+
+gather_part : (n k : ℕ) (f : ℕ → List Message) (xs : List Message) → k < n → Part xs (f k) → Part (gather k f ++ xs) (gather n f)
+unfolding gather
+gather_part zero k f xs l p = absurd (omega arith)
+gather_part (suc n) k f xs l p =
+    ⊎_elim
+    (λ h. part_longer (gather k f ++ xs) (gather n f) (f n) (gather_part n k f xs h p))
+    (λ h. let e : n ≡ k = omega arith in subst (λ (m : ℕ). Part (gather k f ++ xs) (gather m f ++ f m)) (sym e) (part_behind xs (gather k f) (f k) p))
+    (cases_lt k n)
+
+-- memory was short
+pub short : (r : Result Unit Refusal) (P : Unit → Type 0) (Q : Type 0) → IsErrAnd r (λ x. x ≡ Memory) → Q → MatchResult r P (λ e. (e ≡ Memory) × Q)
+short (Ok _) P Q h q = elim h [ ]
+short (Err x) P Q h q = (h, q)
+
+-- k parts were said, then a first part of the next, and then memory was short
+pub stopped : (w v u : Code) (n k : ℕ) (f : ℕ → List Message) (ms : List Message) (e : Refusal) (r : Result Unit Refusal) → e ≡ Memory → IsErrAnd r (λ x. x ≡ e) → k < n →
+    Spoken w v (gather k f) → Spoken v u ms → Part ms (f k) → Ticked w u (gather n f) r
+stopped w v u n k f ms e (Ok _) m h l g s p = elim h [ ]
+stopped w v u n k f ms e (Err x) m h l g s p =
+    let (q, is) = gather_part n k f ms l p in (h ∙ m, q, subst (Spoken w u) is (spoken_then w v u _ _ g s))

@@ -1,3 +1,4 @@
+pub mod Requests
 pub mod Lives
 pub mod Seen
 pub mod Found

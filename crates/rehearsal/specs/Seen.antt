@@ -1,20 +1,15 @@
 -- The world that a `World` of the code is, and what may become of it.
-use Rattle.std.specs.Prelude.{◌≡◌, ℕ, ◌<◌, ◌≤◌, Bool, true, false, ◌⊎◌, List, [], ◌∷◌, ◌++◌, map, length, vec_items, slice_index_or, slice_set}
-use Rattle.giving.specs.declared.message.Body.{Body}
-use Rattle.giving.specs.declared.message.Body.TheVariants as body
+use Rattle.std.specs.Prelude.{◌≡◌, ℕ, ◌<◌, ◌≤◌, true, false, ◌⊎◌, List, [], ◌∷◌, ◌++◌, map, length, take, vec_items, slice_index_or, slice_set, Ok, Err, Result}
 use Rattle.giving.specs.declared.message.Message.{Message}
-use Rattle.giving.specs.declared.ids.StationId.{StationId}
-use Rattle.ledger.specs.Calls.{Short, ShortOpen}
-use Rattle.ledger.specs.Decisions.{decided, decided_open, listing, after, records, messages, for_memory}
+use Rattle.giving.specs.declared.refusal.Refusal.{Refusal}
+use Rattle.giving.specs.declared.refusal.Refusal.TheVariants.{Memory}
+use Rattle.ledger.specs.Calls.{Short, ShortOpen, input_of}
+use Rattle.ledger.specs.Decisions.{Answer, decided, decided_open, listing, after, records, messages, for_memory}
 use Rattle.ledger.specs.declared.input.Input.{Input}
-use Rattle.ledger.specs.declared.input.Input.TheVariants.{Close, Sell, Undo, Give, Take, Hear}
-use Rattle.ledger.specs.declared.input.Outcome.{Outcome}
 use Rattle.network.specs.Places.{gather}
 use Rattle.network.specs.Worlds.{World, channel, reminder, Steps}
 use Rattle.rehearsal.specs.Lives.{shown, journal_of, world_of, nowhere}
 use Rattle.rehearsal.specs.declared.post.Post.{Post}
-use Rattle.rehearsal.specs.declared.request.Request.{Request}
-use Rattle.rehearsal.specs.declared.request.Request.TheVariants as request
 use Rattle.rehearsal.specs.declared.world.World.{World as Code}
 use Rattle.state.specs.States.{State}
 use Rattle.state.specs.declared.record.Record.{Record}
@@ -49,7 +44,7 @@ pub record Same (w v : Code) : Type 0 where
   pub said : vec_items v.said ≡ vec_items w.said
 
 -- what an input to the station i came to: its state and its journal, and no other's; what was said; and the answer, unless memory was short
-pub record Asked (w : Code) (i : ℕ) (x : Input) (v : Code) (o : Outcome) : Type 0 where
+pub record Asked (w : Code) (i : ℕ) (x : Input) (v : Code) (o : Answer) : Type 0 where
   pub trains : rows v ≡ rows w
   pub states : states v ≡ slice_set (states w) i (after (rows w) (state_of w i) o)
   pub journals : journals v ≡ slice_set (journals w) i (slice_index_or (journals w) i [] ++ records o)
@@ -58,25 +53,13 @@ pub record Asked (w : Code) (i : ℕ) (x : Input) (v : Code) (o : Outcome) : Typ
   pub memory : (p : Post) → p ≡ slice_index_or (vec_items w.posts) i p → for_memory o ≡ true → Short p.station p.journal w.said x (decided (rows w) (state_of w i) x)
 
 -- what an opening at the station i came to
-pub record OpenedBy (w : Code) (i : ℕ) (r : Row) (v : Code) (o : Outcome) : Type 0 where
+pub record OpenedBy (w : Code) (i : ℕ) (r : Row) (v : Code) (o : Answer) : Type 0 where
   pub trains : rows v ≡ listing (rows w) r o
   pub states : states v ≡ slice_set (states w) i (after (listing (rows w) r o) (state_of w i) o)
   pub journals : journals v ≡ slice_set (journals w) i (slice_index_or (journals w) i [] ++ records o)
   pub said : vec_items v.said ≡ vec_items w.said
   pub answer : for_memory o ≡ false → o ≡ decided_open (rows w) (state_of w i) r
   pub memory : (p : Post) → p ≡ slice_index_or (vec_items w.posts) i p → for_memory o ≡ true → ShortOpen p.station p.journal (rows w r.train.0) (decided_open (rows w) (state_of w i) r)
-
--- what a message is to the station that it comes to
-abbrev pub input_of : StationId → Body → Input
-input_of from (body.Given n p) = Take from n p
-input_of from (body.Taken n) = Hear from n
-
--- what a request at the counter is to the station
-abbrev pub asking : Request → Input
-asking (request.Close t) = Close t
-asking (request.Sell p) = Sell p
-asking (request.Undo n) = Undo n
-asking (request.Give to p) = Give to p
 
 -- a message that is there, and goes to a station that is there
 abbrev pub Deliverable : Code → ℕ → Message → Type 0
@@ -87,7 +70,7 @@ abbrev pub Undelivered : Code → ℕ → Type 0
 Undelivered w k = (length (vec_items w.said) ≤ k) ⊎ ((m : Message) × (k < length (vec_items w.said)) × (m ≡ slice_index_or (vec_items w.said) k m) × (count w ≤ m.to.0))
 
 -- what a message came to that was delivered
-abbrev pub Delivered : Code → ℕ → Code → Message → Outcome → Type 0
+abbrev pub Delivered : Code → ℕ → Code → Message → Answer → Type 0
 Delivered w k v m o = Deliverable w k m × Asked w m.to.0 (input_of m.from m.body) v o
 
 -- ---- what is said again
@@ -107,7 +90,7 @@ pub record Spoken (w v : Code) (ms : List Message) : Type 0 where
   pub said : vec_items v.said ≡ vec_items w.said ++ ms
   pub steps : ∥ Steps (count w) (rows w) (seen w) (seen v) ∥₁
 
--- what a tick came to: all that waits is said, or some of it, where memory was short
-abbrev pub Ticked : Code → Code → List Message → Bool → Type 0
-Ticked w v ms true = Spoken w v ms
-Ticked w v ms false = (ks : List Message) × Spoken w v ks
+-- what a tick came to: all that waits is said, or a first part of it, where memory was short
+abbrev pub Ticked : Code → Code → List Message → Result Unit Refusal → Type 0
+Ticked w v ms (Ok _) = Spoken w v ms
+Ticked w v ms (Err e) = (e ≡ Memory) × (k : ℕ) × Spoken w v (take k ms)

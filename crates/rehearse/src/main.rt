@@ -1,6 +1,8 @@
 // Plays a script of up to eight stations in memory, and prints what they say and where each stretch of each seat is.
 #![tactic(auto)]
 
+mod answer;
+mod game;
 mod map;
 mod player;
 
@@ -9,7 +11,7 @@ use std::io::{BufRead, BufReader, BufWriter, Write};
 
 fn run(rt: &HostRuntime) -> anyhow::Result<()> {
     let heap = rt.alloc();
-    let mut player = Player::new(heap)?;
+    let mut player = Player::new();
     let mut input = BufReader::new(heap, rt.stdin())?;
     let mut out = BufWriter::new(heap, rt.stdout())?;
     let mut line = Vec::new(heap);
@@ -18,11 +20,11 @@ fn run(rt: &HostRuntime) -> anyhow::Result<()> {
         if input.read_until(b'\n', &mut line)? == 0 {
             break;
         }
-        let said = player.play(heap, line.as_slice())?;
-        out.write_all(said.as_bytes())?;
+        let page = player.play(heap, &line)?;
+        out.write_all(page.as_bytes())?;
     }
-    let said = player.map(heap)?;
-    out.write_all(said.as_bytes())?;
+    let page = player.map(heap)?;
+    out.write_all(page.as_bytes())?;
     out.flush()?;
     Ok(())
 }

@@ -1,101 +1,99 @@
 // The map: where each stretch of each seat is.
+ghost use Rattle.rehearse.specs.Maps.{run_text};
+ghost use Rattle.std.specs.Prelude.{Some};
+
 use giving::ids::StationId;
 use network::place::Place;
 use pieces::names::{Seat, Stop, Train};
+use pieces::stretch::Stretch;
 use rehearsal::world::World;
 use std::alloc::{AllocError, Global};
+use std::fmt;
+use timetable::row::Row;
 
-fn place_text(heap: Global, place: Place) -> Result<String, AllocError> {
-    match place {
-        Place::Held(StationId(i)) => format!(in heap; "held {i}"),
-        Place::Sold(StationId(i)) => format!(in heap; "sold {i}"),
-        Place::Way(StationId(i), StationId(j)) => format!(in heap; "way {i} {j}"),
-    }
+// A run of stretches that are in the same places.
+#[derive(Drop)]
+struct Run {
+    from: u8,
+    to: u8,
+    places: Vec<Place>,
 }
 
-// All places of a stretch, joined by '+'.
-fn places_text(
-    heap: Global,
-    world: &World,
-    train: Train,
-    seat: Seat,
-    stop: Stop,
-) -> Result<String, AllocError> {
-    let found = world.find(heap, train, seat, stop)?;
-    if found.is_empty() {
-        return String::from_str(heap, "none");
-    }
-    let mut text = String::new(heap);
-    for place in found.iter() {
-        if !text.is_empty() {
-            text.push_str("+")?;
-        }
-        let part = place_text(heap, *place)?;
-        text.push_str(part.as_str())?;
-    }
-    Ok(text)
-}
+impl fmt::Display for Run {
+    ghost output = { λ r. Some (run_text r) };
 
-// A run of stretches in one and the same place.
-fn run_text(heap: Global, from: u8, to: u8, places: &str) -> Result<String, AllocError> {
-    format!(in heap; "{from}-{to} {places}")
-}
-
-// A seat's line: the longest runs of stretches that are in one and the same place.
-fn seat_line(
-    heap: Global,
-    world: &World,
-    train: Train,
-    seat: Seat,
-    stops: u8,
-) -> Result<String, AllocError> {
-    let t = train.0;
-    let s = seat.0;
-    let mut text = format!(in heap; "{t} {s}:")?;
-    let mut start = 0u8;
-    let mut last = places_text(heap, world, train, seat, Stop(0))?;
-    for u in 1..stops {
-        let next = if u + 1 < stops {
-            places_text(heap, world, train, seat, Stop(u))?
-        } else {
-            String::new(heap)
+    fn fmt<W: fmt::Write>(&self, f: &mut fmt::Formatter<W>) -> fmt::Result {
+        write!(f, "{}-{} ", self.from, self.to)?;
+        let Some((first, others)) = self.places.split_first() else {
+            return f.write_str("none");
         };
-        if next.as_str() != last.as_str() {
-            let part = run_text(heap, start, u, last.as_str())?;
-            text.push_str(if start == 0 { " " } else { ", " })?;
-            text.push_str(part.as_str())?;
-            start = u;
-            last = next;
+        write!(f, "{first}")?;
+        for place in others {
+            write!(f, "+{place}")?;
+        }
+        Ok(())
+    }
+}
+
+// The longest runs of stretches of a seat that are in the same places.
+fn runs_of(heap: Global, world: &World, row: Row, seat: Seat) -> Result<Vec<Run>, AllocError> {
+    let mut runs: Vec<Run> = Vec::new(heap);
+    for from in 0..row.stops - 1 {
+        let stretch = Stretch {
+            train: row.train,
+            seat,
+            stop: Stop(from),
+        };
+        let places = world.find(heap, stretch)?;
+        let to = from + 1;
+        match runs.last_mut() {
+            Some(run) if run.places == places => run.to = to,
+            _ => runs.push(Run { from, to, places })?,
         }
     }
-    text.push_str("\n")?;
-    Ok(text)
+    Ok(runs)
+}
+
+// A seat's line.
+fn write_seat(
+    heap: Global,
+    world: &World,
+    row: Row,
+    seat: Seat,
+    page: &mut String,
+) -> Result<(), AllocError> {
+    write!(page, "{} {seat}:", row.train)?;
+    for (index, run) in runs_of(heap, world, row, seat)?.iter().enumerate() {
+        let comma = if index == 0 { "" } else { "," };
+        write!(page, "{comma} {run}")?;
+    }
+    page.push_str("\n")
 }
 
 // Whether a station has the train open.
 fn is_open_anywhere(world: &World, train: Train) -> bool {
-    for k in 0..world.stations() {
-        if let Some(station) = world.station(StationId(k)) {
-            if station.is_open(train) {
-                return true;
-            }
-        }
-    }
-    false
+    (0..world.stations()).any(|k| {
+        world
+            .station(StationId(k))
+            .is_some_and(|station| station.is_open(train))
+    })
 }
 
 // The lines of a train's seats, if a station has it open.
-pub fn train_map(heap: Global, world: &World, train: Train) -> Result<String, AllocError> {
-    let mut text = String::new(heap);
+pub fn write_train(
+    heap: Global,
+    world: &World,
+    train: Train,
+    page: &mut String,
+) -> Result<(), AllocError> {
     if !is_open_anywhere(world, train) {
-        return Ok(text);
+        return Ok(());
     }
     let Some(row) = world.row(train) else {
-        return Ok(text);
+        return Ok(());
     };
-    for s in 0..row.seats {
-        let line = seat_line(heap, world, train, Seat(s), row.stops)?;
-        text.push_str(line.as_str())?;
+    for seat in 0..row.seats {
+        write_seat(heap, world, row, Seat(seat), page)?;
     }
-    Ok(text)
+    Ok(())
 }

@@ -1,26 +1,47 @@
 // The lines of a script.
+ghost use Rattle.script.specs.Lines.{deed_of, line_command_of, station_command_of, command_of};
+ghost use Rattle.script.specs.Words.{words_left, number_of, numbers_of};
+ghost use Rattle.std.specs.Prelude.{◌≡◌, option_map, IfOk};
+
 use std::alloc::{AllocError, Global};
+use std::str::SplitAsciiWhitespace;
+
+// A train that is to be opened, as its numbers are typed.
+#[derive(Clone, Copy, Debug, PartialEq, Eq, Drop)]
+pub struct Opening {
+    pub train: u32,
+    pub seats: u32,
+    pub stops: u32,
+    pub first: u32,
+}
+
+// What is wanted of a train: so many people from a stop to a stop.
+#[derive(Clone, Copy, Debug, PartialEq, Eq, Drop)]
+pub struct Wish {
+    pub train: u32,
+    pub from: u32,
+    pub to: u32,
+    pub people: u32,
+}
 
 // What a station is told to do.
-#[derive(Clone, Copy, Drop)]
+#[derive(Clone, Copy, Debug, PartialEq, Eq, Drop)]
 pub enum Deed {
-    // train, seats, stops, first station
-    Open(u32, u32, u32, u32),
-    Close(u32),
-    // train, from, to, how many
-    Sell(u32, u32, u32, u32),
-    Undo(u32),
-    // station, train, from, to, how many
-    Give(u32, u32, u32, u32, u32),
+    Open(Opening),
+    Close { train: u32 },
+    Sell(Wish),
+    Undo { ticket: u32 },
+    // to another station
+    Give { to: u32, wish: Wish },
     Tick,
 }
 
-#[derive(Clone, Copy, Drop)]
+#[derive(Clone, Copy, Debug, PartialEq, Eq, Drop)]
 pub enum Command {
-    Stations(u32),
-    Station(u32, Deed),
+    Stations { count: u32 },
+    Station { who: u32, deed: Deed },
     Pass,
-    PassMany(u32),
+    PassMany { count: u32 },
     Lose,
     Twice,
     Late,
@@ -30,26 +51,23 @@ pub enum Command {
 // A line has at most so many bytes.
 const LONGEST: usize = 4096;
 
-// The number that a word is, in decimal, below 2^32.
-fn number(word: &str) -> Option<u32> {
-    if word.is_empty() {
+// The number that a word is, in decimal, below 2^32. A sign is no digit.
+fn number(word: &str) -> Option<u32>
+    ensures { result ≡ number_of word.now }
+{
+    if word.starts_with('+') {
         return None;
     }
-    let mut value = 0u32;
-    for b in word.bytes() {
-        if b < b'0' || b > b'9' {
-            return None;
-        }
-        value = value.checked_mul(10)?.checked_add(u32::from(b - b'0'))?;
-    }
-    Some(value)
+    word.parse().ok()
 }
 
-// The numbers that the words of a line are from a place on; none where one of them is no number.
-fn numbers(heap: Global, words: &Vec<&str>, from: usize) -> Result<Option<Vec<u32>>, AllocError> {
+// The numbers that words are; none where one of them is no number.
+fn numbers(heap: Global, words: SplitAsciiWhitespace<'_>) -> Result<Option<Vec<u32>>, AllocError>
+    ensures { IfOk result (λ o. option_map (λ v. v.items) o ≡ numbers_of (words_left words.entry)) }
+{
     let mut found = Vec::new(heap);
-    for k in from..words.len() {
-        let Some(n) = number(words[k]) else {
+    for word in words {
+        let Some(n) = number(word) else {
             return Ok(None);
         };
         found.push(n)?;
@@ -58,59 +76,87 @@ fn numbers(heap: Global, words: &Vec<&str>, from: usize) -> Result<Option<Vec<u3
 }
 
 // What a station is told, by a word and the numbers behind it.
-fn read_deed(word: &str, args: &[u32]) -> Option<Deed> {
-    match args {
-        [] if word == "tick" => Some(Deed::Tick),
-        [t] if word == "close" => Some(Deed::Close(*t)),
-        [k] if word == "undo" => Some(Deed::Undo(*k)),
-        [t, a, b, n] if word == "sell" => Some(Deed::Sell(*t, *a, *b, *n)),
-        [t, s, l, f] if word == "open" => Some(Deed::Open(*t, *s, *l, *f)),
-        [j, t, a, b, n] if word == "give" => Some(Deed::Give(*j, *t, *a, *b, *n)),
+fn station_deed(word: &str, args: &[u32]) -> Option<Deed>
+    ensures { result ≡ deed_of word.now args.now }
+{
+    match (word, args) {
+        ("tick", []) => Some(Deed::Tick),
+        ("close", &[train]) => Some(Deed::Close { train }),
+        ("undo", &[ticket]) => Some(Deed::Undo { ticket }),
+        ("sell", &[train, from, to, people]) => Some(Deed::Sell(Wish {
+            train,
+            from,
+            to,
+            people,
+        })),
+        ("open", &[train, seats, stops, first]) => Some(Deed::Open(Opening {
+            train,
+            seats,
+            stops,
+            first,
+        })),
+        ("give", &[station, train, from, to, people]) => Some(Deed::Give {
+            to: station,
+            wish: Wish {
+                train,
+                from,
+                to,
+                people,
+            },
+        }),
         _ => None,
     }
 }
 
 // A command on the lines between the stations.
-fn line_command(word: &str, args: &[u32]) -> Option<Command> {
-    match args {
-        [] if word == "pass" => Some(Command::Pass),
-        [] if word == "lose" => Some(Command::Lose),
-        [] if word == "twice" => Some(Command::Twice),
-        [] if word == "late" => Some(Command::Late),
-        [] if word == "where" => Some(Command::Where),
-        [k] if word == "pass" => Some(Command::PassMany(*k)),
-        [n] if word == "stations" => Some(Command::Stations(*n)),
+fn line_command(word: &str, args: &[u32]) -> Option<Command>
+    ensures { result ≡ line_command_of word.now args.now }
+{
+    match (word, args) {
+        ("pass", []) => Some(Command::Pass),
+        ("pass", &[count]) => Some(Command::PassMany { count }),
+        ("lose", []) => Some(Command::Lose),
+        ("twice", []) => Some(Command::Twice),
+        ("late", []) => Some(Command::Late),
+        ("where", []) => Some(Command::Where),
+        ("stations", &[count]) => Some(Command::Stations { count }),
         _ => None,
     }
 }
 
-// Reads a line that has words; none where it is no command.
-pub fn read(heap: Global, line: &str) -> Result<Option<Command>, AllocError> {
+// A command to a station, by the words behind its number.
+fn station_command(
+    heap: Global,
+    who: u32,
+    mut words: SplitAsciiWhitespace<'_>,
+) -> Result<Option<Command>, AllocError>
+    ensures { IfOk result (λ r. r ≡ station_command_of who (words_left words.entry)) }
+{
+    let Some(word) = words.next() else {
+        return Ok(None);
+    };
+    let Some(args) = numbers(heap, words)? else {
+        return Ok(None);
+    };
+    Ok(station_deed(word, &args).map(|deed| Command::Station { who, deed }))
+}
+
+// Reads a line; none where it is no command.
+pub fn read(heap: Global, line: &str) -> Result<Option<Command>, AllocError>
+    ensures { IfOk result (λ r. r ≡ command_of line.now) }
+{
     if line.len() > LONGEST {
         return Ok(None);
     }
-    let mut words = Vec::new(heap);
-    for word in line.split_ascii_whitespace() {
-        words.push(word)?;
-    }
-    if words.is_empty() {
-        return Ok(None);
-    }
-    let first = words[0];
-    let Some(who) = number(first) else {
-        let Some(args) = numbers(heap, &words, 1)? else {
-            return Ok(None);
-        };
-        return Ok(line_command(first, args.as_slice()));
-    };
-    if words.len() < 2 {
-        return Ok(None);
-    }
-    let Some(args) = numbers(heap, &words, 2)? else {
+    let mut words = line.split_ascii_whitespace();
+    let Some(first) = words.next() else {
         return Ok(None);
     };
-    match read_deed(words[1], args.as_slice()) {
-        None => Ok(None),
-        Some(what) => Ok(Some(Command::Station(who, what))),
+    if let Some(who) = number(first) {
+        return station_command(heap, who, words);
     }
+    let Some(args) = numbers(heap, words)? else {
+        return Ok(None);
+    };
+    Ok(line_command(first, &args))
 }

@@ -1,4 +1,4 @@
-// The lines of a script, and the text of messages and refusals.
+// The lines of a script, and the text of messages.
 #![tactic(auto)]
 
 pub mod command;

@@ -1,53 +1,51 @@
-// What is printed of messages and outcomes.
-use giving::ids::StationId;
+// What is printed of messages.
+ghost use Rattle.script.specs.Shown.{body_text, said_text, coming_text};
+ghost use Rattle.std.specs.Prelude.{Some};
+
 use giving::message::{Body, Message};
-use giving::refusal::Refusal;
-use std::alloc::{AllocError, Global};
+use std::fmt;
 
 // A message as bytes, in hexadecimal: its kind, then its numbers, the high byte first.
-pub fn hex(heap: Global, body: Body) -> Result<String, AllocError> {
-    match body {
-        Body::Given(number, piece) => {
-            let n = number.0;
-            let t = piece.train.0;
-            let s = piece.seat.0;
-            let a = piece.from.0;
-            let b = piece.to.0;
-            format!(in heap; "01{n:08x}{t:08x}{s:04x}{a:02x}{b:02x}")
-        }
-        Body::Taken(number) => {
-            let n = number.0;
-            format!(in heap; "02{n:08x}")
+#[derive(Clone, Copy, Drop)]
+pub struct Hex(pub Body);
+
+impl fmt::Display for Hex {
+    ghost output = { λ h. Some (body_text h.0) };
+
+    fn fmt<W: fmt::Write>(&self, f: &mut fmt::Formatter<W>) -> fmt::Result {
+        match self.0 {
+            Body::Given(number, piece) => write!(
+                f,
+                "01{:08x}{:08x}{:04x}{:02x}{:02x}",
+                number.0, piece.train.0, piece.seat.0, piece.trip.from.0, piece.trip.to.0
+            ),
+            Body::Taken(number) => write!(f, "02{:08x}", number.0),
         }
     }
 }
 
 // A message as the station that says it prints it.
-pub fn out(heap: Global, message: Message) -> Result<String, AllocError> {
-    let from = message.from.0;
-    let to = message.to.0;
-    let bytes = hex(heap, message.body)?;
-    format!(in heap; "{from} out {to} {bytes}\n")
+#[derive(Clone, Copy, Drop)]
+pub struct Said(pub Message);
+
+impl fmt::Display for Said {
+    ghost output = { λ s. Some (said_text s.0) };
+
+    fn fmt<W: fmt::Write>(&self, f: &mut fmt::Formatter<W>) -> fmt::Result {
+        let Message { from, to, body } = self.0;
+        write!(f, "{from} out {to} {}", Hex(body))
+    }
 }
 
-// A message as it comes to a station.
-pub fn delivery(heap: Global, message: Message) -> Result<String, AllocError> {
-    let from = message.from.0;
-    let to = message.to.0;
-    let bytes = hex(heap, message.body)?;
-    format!(in heap; "{to} < {from} {bytes}\n")
-}
+// A message as the station that it comes to prints it.
+#[derive(Clone, Copy, Drop)]
+pub struct Coming(pub Message);
 
-// A refusal, or that something was passed over.
-pub fn refused(
-    heap: Global,
-    who: StationId,
-    word: &str,
-    refusal: Refusal,
-) -> Result<String, AllocError> {
-    let who = who.0;
-    match refusal.number() {
-        Some(n) => format!(in heap; "{who} {word} {n}\n"),
-        None => format!(in heap; "{who} {word} memory\n"),
+impl fmt::Display for Coming {
+    ghost output = { λ c. Some (coming_text c.0) };
+
+    fn fmt<W: fmt::Write>(&self, f: &mut fmt::Formatter<W>) -> fmt::Result {
+        let Message { from, to, body } = self.0;
+        write!(f, "{to} < {from} {}", Hex(body))
     }
 }

@@ -1,5 +1,4 @@
 pub mod Same
 pub mod Searches
 pub mod Held
-pub mod Sales
 pub mod Opens

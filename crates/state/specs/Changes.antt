@@ -5,11 +5,8 @@ use Rattle.giving.specs.declared.ids.StationId.{StationId}
 use Rattle.state.specs.States.{State, place_of, place, is_open, was_closed, known, openable, holds_piece, sold, tickets_left, ticket_of}
 use Rattle.state.specs.declared.record.Record.{Record}
 use Rattle.state.specs.declared.record.Record.TheVariants.{Opened, Closed, Sold, Undone, Given, Taken, Heard}
-use Rattle.state.specs.declared.record.Sale.{Sale}
-use Rattle.state.specs.declared.record.Sale.TheVariants.{Stands, Returned}
-use Rattle.state.specs.declared.record.Slot.TheVariants.{Free, Open}
-use Rattle.pieces.specs.Memory.{without, together, seated, placed}
-use Rattle.pieces.specs.Stretches.{span}
+use Rattle.pieces.specs.Memory.{Changing, altered, seated, placed}
+use Rattle.pieces.specs.Stretches.{span, less, plus}
 use Rattle.pieces.specs.declared.names.Train.{Train}
 use Rattle.pieces.specs.declared.piece.Piece.{Piece}
 use Rattle.timetable.specs.Rows.{Table, stretches, listed}
@@ -20,7 +17,7 @@ use Rattle.timetable.specs.declared.row.Row.{Row}
 abbrev pub with_words : State → List ℕ → State
 with_words s ws = record { me = s.me; slots = s.slots; words = ws; closed = s.closed; dropped = s.dropped; tickets = s.tickets; channels = s.channels }
 
-abbrev pub with_tickets : State → List Sale → State
+abbrev pub with_tickets : State → List (Option Piece) → State
 with_tickets s xs = record { me = s.me; slots = s.slots; words = s.words; closed = s.closed; dropped = s.dropped; tickets = xs; channels = s.channels }
 
 abbrev pub with_line : State → StationId → Chan → State
@@ -28,12 +25,16 @@ with_line s k c = record { me = s.me; slots = s.slots; words = s.words; closed =
 
 -- ---- pieces
 
+-- what is held of a piece is changed
+abbrev pub changed : Changing → State → Piece → State
+changed f s p = with_words s (altered f s.words (place s p.train) p.seat.0 p.trip.from.0 p.trip.to.0)
+
 -- a piece taken out of what is held, and put back
 abbrev pub taken_out : State → Piece → State
-taken_out s p = with_words s (without s.words (place s p.train) p.seat.0 p.from.0 p.to.0)
+taken_out = changed less
 
 abbrev pub put_back : State → Piece → State
-put_back s p = with_words s (together s.words (place s p.train) p.seat.0 p.from.0 p.to.0)
+put_back = changed plus
 
 -- ---- trains
 
@@ -43,24 +44,24 @@ opening i r = cond (i == r.first.0) (span 0 (stretches r)) 0
 
 abbrev pub opened : Option Row → Train → State → State
 opened None t s = s
-opened (Some r) t s = record { me = s.me; slots = slice_set s.slots (place_of s.slots Free) (Open t); words = placed s.words (place_of s.slots Free) (seated r.seats (opening s.me r)); closed = s.closed; dropped = s.dropped; tickets = s.tickets; channels = s.channels }
+opened (Some r) t s = record { me = s.me; slots = slice_set s.slots (place_of s.slots None) (Some t); words = placed s.words (place_of s.slots None) (seated r.seats (opening s.me r)); closed = s.closed; dropped = s.dropped; tickets = s.tickets; channels = s.channels }
 
 -- the tickets of a train are forgotten
-abbrev pub forgotten : Train → Sale → Sale
-forgotten t (Stands p) = cond (t.0 == p.train.0) Returned (Stands p)
-forgotten t Returned = Returned
+abbrev pub forgotten : Train → Option Piece → Option Piece
+forgotten t (Some p) = cond (t.0 == p.train.0) None (Some p)
+forgotten t None = None
 
 -- how many tickets at the front do not stand any more
-abbrev pub stale : List Sale → ℕ
+abbrev pub stale : List (Option Piece) → ℕ
 stale [] = 0
-stale (Stands p ∷ xs) = 0
-stale (Returned ∷ xs) = suc (stale xs)
+stale (Some p ∷ xs) = 0
+stale (None ∷ xs) = suc (stale xs)
 
-abbrev pub trimmed : List Sale → List Sale
+abbrev pub trimmed : List (Option Piece) → List (Option Piece)
 trimmed xs = drop (stale xs) xs
 
 abbrev pub closing : Train → State → State
-closing t s = record { me = s.me; slots = slice_set s.slots (place s t) Free; words = s.words; closed = s.closed ++ t ∷ []; dropped = s.dropped + stale (map (forgotten t) s.tickets); tickets = trimmed (map (forgotten t) s.tickets); channels = s.channels }
+closing t s = record { me = s.me; slots = slice_set s.slots (place s t) None; words = s.words; closed = s.closed ++ t ∷ []; dropped = s.dropped + stale (map (forgotten t) s.tickets); tickets = trimmed (map (forgotten t) s.tickets); channels = s.channels }
 
 -- a piece that comes: of a train that was closed here nothing is held, and one that was never open here is opened
 abbrev pub received : Table → State → Piece → State
@@ -68,24 +69,24 @@ received tb s p = cond (was_closed s p.train) s (put_back (cond (is_open s p.tra
 
 -- ---- the change that a record makes
 
-abbrev pub returned : Sale → State → State
-returned (Stands p) s = put_back s p
-returned Returned s = s
+abbrev pub returned : Option Piece → State → State
+returned (Some p) s = put_back s p
+returned None s = s
 
 abbrev pub apply : Table → State → Record → State
 apply tb s (Opened t) = opened (tb t.0) t s
 apply tb s (Closed t) = closing t s
-apply tb s (Sold n p) = with_tickets (taken_out s p) (s.tickets ++ Stands p ∷ [])
-apply tb s (Undone n) = with_tickets (returned (ticket_of s n.0) s) (slice_set s.tickets (n.0 - 1 - s.dropped) Returned)
+apply tb s (Sold n p) = with_tickets (taken_out s p) (s.tickets ++ Some p ∷ [])
+apply tb s (Undone n) = with_tickets (returned (ticket_of s n.0) s) (slice_set s.tickets (n.0 - 1 - s.dropped) None)
 apply tb s (Given to n p) = with_line (taken_out s p) to (gave (line s.channels to.0) p)
 apply tb s (Taken from n p) = with_line (received tb s p) from (took (line s.channels from.0))
 apply tb s (Heard from n) = with_line s from (heard_to (line s.channels from.0) n.0)
 
 -- ---- where a record may stand
 
-abbrev pub returnable : Table → State → Sale → Bool
-returnable tb s (Stands p) = listed (tb p.train.0) p && is_open s p.train
-returnable tb s Returned = false
+abbrev pub returnable : Table → State → Option Piece → Bool
+returnable tb s (Some p) = listed (tb p.train.0) p && is_open s p.train
+returnable tb s None = false
 
 abbrev pub fits : Table → State → Record → Bool
 fits tb s (Opened t) = is_some (tb t.0) && (not (known s t) && openable s)

@@ -1,12 +1,10 @@
 -- What a record needs besides that it fits, and the smaller changes that records are made of.
-use Rattle.std.specs.Prelude.{◌≡◌, ◌+◌, ◌<◌, ◌≤◌, true, vec_len, vec_capacity}
+use Rattle.std.specs.Prelude.{◌≡◌, ◌+◌, ◌<◌, ◌≤◌, true, vec_len, vec_capacity, Some, None, Option}
 use Rattle.pieces.specs.declared.piece.Piece.{Piece}
 use Rattle.state.specs.Changes.{stale, trimmed}
 use Rattle.state.specs.States.{State, is_open}
 use Rattle.state.specs.declared.record.Record.{Record}
 use Rattle.state.specs.declared.record.Record.TheVariants.{Opened, Closed, Sold, Undone, Given, Taken, Heard}
-use Rattle.state.specs.declared.record.Sale.{Sale}
-use Rattle.state.specs.declared.record.Sale.TheVariants.{Stands, Returned}
 use Rattle.state.specs.declared.station.Station.{Station}
 
 -- there is memory for what a record adds
@@ -34,9 +32,9 @@ abbrev pub Seated : State → Piece → Type 0
 Seated s p = (p.seat.0 < 400) × (is_open s p.train ≡ true)
 
 -- a ticket that stands, for such a piece
-abbrev pub Standing : State → Sale → Type 0
-Standing s (Stands p) = Seated s p
-Standing s Returned = ⊥
+abbrev pub Standing : State → Option Piece → Type 0
+Standing s (Some p) = Seated s p
+Standing s None = ⊥
 
 -- the tickets at the front that do not stand any more are dropped
 abbrev pub trimming : State → State

@@ -1,10 +1,6 @@
 -- A station's lasting state as plain lists, and what can be read off it.
-use Rattle.std.specs.Prelude.{ℕ, suc, ◌+◌, ◌-◌, Bool, true, false, cond, ◌&&◌, ◌||◌, List, [], ◌∷◌, length, replicate, ◌==◌, nat_lt, slice_index_or}
+use Rattle.std.specs.Prelude.{ℕ, suc, ◌+◌, ◌-◌, Bool, true, false, cond, ◌&&◌, ◌||◌, List, [], ◌∷◌, length, replicate, ◌==◌, nat_lt, slice_index_or, Some, None, Option}
 use Rattle.giving.specs.Channels.{Chan, fresh}
-use Rattle.state.specs.declared.record.Sale.{Sale}
-use Rattle.state.specs.declared.record.Sale.TheVariants.{Returned}
-use Rattle.state.specs.declared.record.Slot.{Slot}
-use Rattle.state.specs.declared.record.Slot.TheVariants.{Free, Open}
 use Rattle.pieces.specs.Memory.{word_at}
 use Rattle.pieces.specs.Stretches.{covered}
 use Rattle.pieces.specs.declared.names.Train.{Train}
@@ -14,32 +10,32 @@ use Rattle.pieces.specs.declared.piece.Piece.{Piece}
 -- The ticket with the number n stands at n - 1 - dropped: the first `dropped` tickets are forgotten.
 pub record State : Type 0 where
   pub me : ℕ
-  pub slots : List Slot
+  pub slots : List (Option Train)
   pub words : List ℕ
   pub closed : List Train
   pub dropped : ℕ
-  pub tickets : List Sale
+  pub tickets : List (Option Piece)
   pub channels : List Chan
 
 -- number `me` of n stations, which has done nothing yet
 abbrev pub begun : (n me : ℕ) → State
-begun n i = record { me = i; slots = replicate 64 Free; words = replicate 25600 0; closed = []; dropped = 0; tickets = []; channels = replicate n fresh }
+begun n i = record { me = i; slots = replicate 64 None; words = replicate 25600 0; closed = []; dropped = 0; tickets = []; channels = replicate n fresh }
 
 -- ---- trains
 
-abbrev pub same : Slot → Slot → Bool
-same Free Free = true
-same Free (Open b) = false
-same (Open a) Free = false
-same (Open a) (Open b) = a.0 == b.0
+abbrev pub same : Option Train → Option Train → Bool
+same None None = true
+same None (Some b) = false
+same (Some a) None = false
+same (Some a) (Some b) = a.0 == b.0
 
 -- the first place of a slot, or the number of slots
-abbrev pub place_of : List Slot → Slot → ℕ
+abbrev pub place_of : List (Option Train) → Option Train → ℕ
 place_of [] x = 0
 place_of (y ∷ ys) x = cond (same y x) 0 (suc (place_of ys x))
 
 abbrev pub place : State → Train → ℕ
-place s t = place_of s.slots (Open t)
+place s t = place_of s.slots (Some t)
 
 abbrev pub is_open : State → Train → Bool
 is_open s t = nat_lt (place s t) (length s.slots)
@@ -57,13 +53,13 @@ known s t = is_open s t || was_closed s t
 
 -- a train more may be opened
 abbrev pub openable : State → Bool
-openable s = nat_lt (place_of s.slots Free) (length s.slots) && nat_lt (length s.closed) 65536
+openable s = nat_lt (place_of s.slots None) (length s.slots) && nat_lt (length s.closed) 65536
 
 -- ---- pieces and tickets
 
 -- a station holds a piece: each stretch of it
 abbrev pub holds_piece : State → Piece → Bool
-holds_piece s p = nat_lt p.seat.0 400 && covered (word_at s.words (place s p.train) p.seat.0) p.from.0 p.to.0
+holds_piece s p = nat_lt p.seat.0 400 && covered (word_at s.words (place s p.train) p.seat.0) p.trip.from.0 p.trip.to.0
 
 -- how many tickets were ever sold
 abbrev pub sold : State → ℕ
@@ -72,5 +68,5 @@ sold s = s.dropped + length s.tickets
 abbrev pub tickets_left : State → Bool
 tickets_left s = nat_lt (sold s) 4294967295
 
-abbrev pub ticket_of : State → ℕ → Sale
-ticket_of s n = cond (nat_lt s.dropped n) (slice_index_or s.tickets (n - 1 - s.dropped) Returned) Returned
+abbrev pub ticket_of : State → ℕ → Option Piece
+ticket_of s n = cond (nat_lt s.dropped n) (slice_index_or s.tickets (n - 1 - s.dropped) None) None

@@ -1,4 +1,4 @@
-// What a station writes down, and what its state is made of.
+// What a station writes down.
 use giving::ids::{Number, StationId, Ticket};
 use pieces::names::Train;
 use pieces::piece::Piece;
@@ -16,18 +16,4 @@ pub enum Record {
     Taken(StationId, Number, Piece),
     // a station has taken all up to a number
     Heard(StationId, Number),
-}
-
-// A place for an open train.
-#[derive(Clone, Copy, Drop)]
-pub enum Slot {
-    Free,
-    Open(Train),
-}
-
-// A ticket: it stands, or it was undone, or its train was closed.
-#[derive(Clone, Copy, Drop)]
-pub enum Sale {
-    Stands(Piece),
-    Returned,
 }

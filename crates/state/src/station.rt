@@ -1,24 +1,25 @@
 // A station: its open trains with what it holds of them, its closed trains, its tickets, and its channels.
 ghost use Rattle.std.specs.Prelude.{◌≡◌, ◌+◌, ◌≤◌, vec_len};
 
-use crate::record::{Sale, Slot};
 use giving::channels::Channels;
+use pieces::memory::Memory;
 use pieces::names::Train;
+use pieces::piece::Piece;
 
 pub mod changes;
 pub mod reads;
 pub mod sales;
 
-// The ticket with the number n stands at n - 1 - dropped.
+// Each open train has a slot. The ticket with the number n stands at n - 1 - dropped: it has its piece while it stands, and none
+// once it was undone or its train was closed.
 #[derive(Drop)]
 pub struct Station {
-    slots: Vec<Slot>,
-    words: Vec<u64>,
+    slots: Vec<Option<Train>>,
+    memory: Memory,
     closed: Vec<Train>,
     dropped: u32,
-    tickets: Vec<Sale>,
+    tickets: Vec<Option<Piece>>,
     channels: Channels,
     ghost many: { vec_len slots ≡ 64 },
-    ghost wide: { vec_len words ≡ 25600 },
     ghost numbered: { dropped + vec_len tickets ≤ 4294967295 },
 }

@@ -13,7 +13,7 @@ stretches r = r.stops - 1
 
 -- a piece of a seat and of stops that the train has
 abbrev pub within : Row → Piece → Bool
-within r p = nat_lt p.seat.0 r.seats && nat_lt p.to.0 r.stops
+within r p = nat_lt p.seat.0 r.seats && nat_lt p.trip.to.0 r.stops
 
 -- the train is in the timetable, and has the piece
 abbrev pub listed : Option Row → Piece → Bool

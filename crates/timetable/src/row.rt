@@ -6,7 +6,7 @@ use pieces::names::Train;
 
 pub mod makes;
 
-#[derive(Clone, Copy, Drop)]
+#[derive(Clone, Copy, Debug, PartialEq, Eq, Drop)]
 pub struct Row {
     pub train: Train,
     pub seats: u16,

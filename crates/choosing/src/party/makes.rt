@@ -5,7 +5,7 @@ ghost use Rattle.pieces.specs.declared.names.Seat.{Seat as Chair};
 ghost use Rattle.pieces.specs.declared.names.Train.{Train as Run};
 ghost use Rattle.pieces.specs.declared.trip.Trip.{Trip as Way};
 
-use super::Party;
+use super::{MOST, Party};
 use pieces::names::{Seat, Train};
 use pieces::trip::Trip;
 
@@ -17,7 +17,7 @@ impl Party {
         Party {
             train,
             trip,
-            seats: [Seat(0); 8],
+            seats: [Seat(0); MOST],
             count: 0,
         }
     }
@@ -26,8 +26,7 @@ impl Party {
     pub fn seats(&self) -> &[Seat]
         ensures { result.now ≡ seats_of self.now }
     {
-        let count = usize::from(self.count).min(8);
-        &self.seats[0..count]
+        &self.seats[..usize::from(self.count)]
     }
 
     // How many people there are.
@@ -50,18 +49,6 @@ impl Party {
     pub fn is_within(&self, seats: u16, stops: u8) -> bool
         ensures { result ≡ (nat_lt self.now.trip.to.0 stops && below seats (seats_of self.now)) }
     {
-        self.trip.to.0 < stops && are_below(self.seats(), seats)
+        self.trip.to.0 < stops && self.seats().iter().all(|seat| seat.0 < seats)
     }
-}
-
-// Whether each seat is one of the first ones.
-fn are_below(seats: &[Seat], count: u16) -> bool
-    ensures { result ≡ below count seats.now }
-{
-    for seat in seats.iter() {
-        if seat.0 >= count {
-            return false;
-        }
-    }
-    true
 }

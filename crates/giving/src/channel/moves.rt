@@ -22,9 +22,9 @@ impl Channel {
     {
         let waiting = VecDeque::with_capacity(heap, MOST)?;
         Ok(Channel {
-            given: 0,
-            heard: 0,
-            taken: 0,
+            given: Number(0),
+            heard: Number(0),
+            taken: Number(0),
             waiting,
         })
     }
@@ -33,14 +33,14 @@ impl Channel {
     pub fn is_numbered(&self) -> bool
         ensures { result ≡ numbered (chan self.now) }
     {
-        self.given < u32::MAX
+        self.given.0 < u32::MAX
     }
 
     // How many numbers are left for pieces.
     pub fn numbers_left(&self) -> u32
         ensures { result ≡ 4294967295 - (chan self.now).given }
     {
-        u32::MAX - self.given
+        u32::MAX - self.given.0
     }
 
     // The number that the next piece gets.
@@ -48,36 +48,35 @@ impl Channel {
         requires { numbered (chan self.now) ≡ true }
         ensures { result ≡ record { 0 = (chan self.now).given + 1 } }
     {
-        Number(self.given + 1)
+        Number(self.given.0 + 1)
     }
 
     // How a number of the other station's stands to the next one that is to be taken.
     pub fn standing(&self, number: Number) -> Ordering
         ensures { result ≡ stands (chan self.now) number.0 }
     {
-        match Number(self.taken).next() {
-            None => Ordering::Less,
-            Some(next) => number.cmp(&next),
-        }
+        self.taken
+            .next()
+            .map_or(Ordering::Less, |next| number.cmp(&next))
     }
 
     pub fn is_next(&self, number: Number) -> bool
         ensures { result ≡ (number.0 == (chan self.now).taken + 1) }
     {
-        number.0 > 0 && number.0 - 1 == self.taken
+        self.taken.next() == Some(number)
     }
 
     // Whether the other station may acknowledge up to a number, and has not yet.
     pub fn is_news(&self, number: Number) -> bool
         ensures { result ≡ news (chan self.now) number.0 }
     {
-        self.heard < number.0 && number.0 <= self.given
+        self.heard < number && number <= self.given
     }
 
     pub fn was_given(&self, number: Number) -> bool
         ensures { result ≡ nat_le number.0 (chan self.now).given }
     {
-        number.0 <= self.given
+        number <= self.given
     }
 
     // How many pieces wait.
@@ -91,26 +90,44 @@ impl Channel {
     pub fn waiting_at(&self, place: usize) -> Option<(Number, Piece)>
         ensures { MatchOption result (length (chan self.now).waiting ≤ place) (λ q. (place < length (chan self.now).waiting) × (q.0 ≡ record { 0 = (chan self.now).heard + 1 + place }) × (q.1 ≡ slice_index_or (chan self.now).waiting place blank)) }
     {
-        if place >= self.waiting.len() {
-            return None;
-        }
-        let last = self.given;
-        let behind = self.waiting.len() - 1 - place;
-        Some((Number(last - behind as u32), self.waiting[place]))
+        let piece = self.waiting.get(place)?;
+        Some((self.number_at(place), *piece))
+    }
+
+    // The pieces that wait, in the order of their numbers.
+    pub fn waiting(&self) -> &VecDeque<Piece>
+        ensures { result.now.items ≡ (chan self.now).waiting }
+    {
+        &self.waiting
+    }
+
+    // The number of the piece at a place of those that wait.
+    pub fn number_at(&self, place: usize) -> Number
+        requires { place < length (chan self.now).waiting }
+        ensures { result ≡ record { 0 = (chan self.now).heard + 1 + place } }
+    {
+        Number(self.heard.0 + 1 + place as u32)
+    }
+
+    // The last number that was used for a piece.
+    pub fn given_to(&self) -> Number
+        ensures { result ≡ record { 0 = (chan self.now).given } }
+    {
+        self.given
     }
 
     // Up to which number the other station's pieces are taken.
     pub fn taken_to(&self) -> Number
         ensures { result ≡ record { 0 = (chan self.now).taken } }
     {
-        Number(self.taken)
+        self.taken
     }
 
     // Up to which number the other station has acknowledged.
     pub fn heard_to(&self) -> Number
         ensures { result ≡ record { 0 = (chan self.now).heard } }
     {
-        Number(self.heard)
+        self.heard
     }
 
     // Uses up the next number for a piece, which then waits.
@@ -119,8 +136,9 @@ impl Channel {
         requires room { length (chan self.old).waiting < 4096 }
         ensures { chan self.new ≡ gave (chan self.old) piece }
     {
-        self.waiting.push_back_reserved(piece);
-        self.given += 1;
+        let number = self.next_number();
+        self.waiting.push_back(piece).unwrap();
+        self.given = number;
     }
 
     // Lets go of the pieces up to a number that the other station acknowledges.
@@ -128,26 +146,19 @@ impl Channel {
         requires { up_to.0 ≤ (chan self.old).given }
         ensures { chan self.new ≡ heard_to (chan self.old) up_to.0 }
     {
-        if up_to.0 <= self.heard {
-            return;
-        }
-        let count = (up_to.0 - self.heard) as usize;
-        let left = self.waiting.len() - count;
-        self.waiting.rotate_left(count);
-        self.waiting.truncate(left);
-        self.heard = up_to.0;
+        let count = up_to.0.saturating_sub(self.heard.0);
+        self.waiting.drain(..count as usize);
+        self.heard = self.heard.max(up_to);
     }
 
     // Takes the other station's next number; one that was taken or comes later is refused.
     pub fn receive(&mut self, number: Number) -> Result<(), Refusal>
         ensures { Received (chan self.old) number.0 (chan self.new) result }
     {
-        let Some(next) = Number(self.taken).next() else {
-            return Err(Refusal::OutOfTurn);
-        };
+        let next = self.taken.next().ok_or(Refusal::OutOfTurn)?;
         match number.cmp(&next) {
             Ordering::Equal => {
-                self.taken = next.0;
+                self.taken = next;
                 Ok(())
             }
             _ => Err(Refusal::OutOfTurn),

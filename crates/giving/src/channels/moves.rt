@@ -1,4 +1,6 @@
 // The calls on the channels of a station.
+#![tactic(auto, using(crate::proofs::Mapped::mapped))]
+
 ghost use Rattle.std.specs.Prelude.{◌≡◌};
 ghost use Rattle.giving.specs.Calls.{gives, after_give, hears, after_hear, receives, after_receive};
 ghost use Rattle.giving.specs.Posts.{chans};
@@ -22,7 +24,7 @@ impl Channels {
             return Err(Refusal::NoSuchStation);
         }
         let number = self.next_number(to);
-        self.lines[to.0 as usize].give(piece);
+        self.lines[usize::from(to.0)].give(piece);
         self.waiting += 1;
         Ok(number)
     }
@@ -42,10 +44,10 @@ impl Channels {
         if !self.is_news(from, up_to) {
             return Ok(false);
         }
-        let k = from.0 as usize;
-        let before = self.waiting_for(from);
-        self.lines[k].hear(up_to);
-        self.waiting = self.waiting - before + self.lines[k].waiting_len();
+        let channel = &mut self.lines[usize::from(from.0)];
+        let before = channel.waiting_len();
+        channel.hear(up_to);
+        self.waiting -= before - channel.waiting_len();
         Ok(true)
     }
 
@@ -58,6 +60,6 @@ impl Channels {
         if !self.is_other(from) {
             return Err(Refusal::NoSuchStation);
         }
-        self.lines[from.0 as usize].receive(number)
+        self.lines[usize::from(from.0)].receive(number)
     }
 }

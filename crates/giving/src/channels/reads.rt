@@ -47,14 +47,14 @@ impl Channels {
     pub fn is_other(&self, k: StationId) -> bool
         ensures { result ≡ other self.now.me.0 (chans self.now) k.0 }
     {
-        (k.0 as usize) < self.len() && k.0 != self.me.0
+        usize::from(k.0) < self.len() && k != self.me
     }
 
     // The channel to a station, if it is there.
     pub fn channel(&self, k: StationId) -> Option<&Channel>
         ensures { MatchOption result ((length (chans self.now) ≤ k.0) × (line (chans self.now) k.0 ≡ fresh)) (λ c. (k.0 < length (chans self.now)) × (line (chans self.now) k.0 ≡ chan c.now)) }
     {
-        self.lines.get(k.0 as usize)
+        self.lines.get(usize::from(k.0))
     }
 
     // Whether a piece more may wait.
@@ -68,10 +68,7 @@ impl Channels {
     pub fn is_numbered(&self, to: StationId) -> bool
         ensures { result ≡ numbered (line (chans self.now) to.0) }
     {
-        match self.channel(to) {
-            None => true,
-            Some(channel) => channel.is_numbered(),
-        }
+        self.channel(to).is_none_or(|channel| channel.is_numbered())
     }
 
     // How many pieces more may be given to a station.
@@ -79,10 +76,8 @@ impl Channels {
         ensures { result ≡ room (chans self.now) to.0 }
     {
         let left = (MOST - self.waiting) as u32;
-        match self.channel(to) {
-            None => left,
-            Some(channel) => left.min(channel.numbers_left()),
-        }
+        self.channel(to)
+            .map_or(left, |channel| left.min(channel.numbers_left()))
     }
 
     // The number that the next piece to a station gets.
@@ -90,89 +85,78 @@ impl Channels {
         requires { numbered (line (chans self.now) to.0) ≡ true }
         ensures { result ≡ record { 0 = (line (chans self.now) to.0).given + 1 } }
     {
-        match self.channel(to) {
-            None => Number(1),
-            Some(channel) => channel.next_number(),
-        }
+        self.channel(to)
+            .map_or(Number(1), |channel| channel.next_number())
     }
 
     // How a number of a station's stands to the next one that is to be taken.
     pub fn standing(&self, from: StationId, number: Number) -> Ordering
         ensures { result ≡ stands (line (chans self.now) from.0) number.0 }
     {
-        match self.channel(from) {
-            None => number.cmp(&Number(1)),
-            Some(channel) => channel.standing(number),
-        }
+        self.channel(from)
+            .map_or(number.cmp(&Number(1)), |channel| channel.standing(number))
     }
 
     // Whether a number is the next one of a station's.
     pub fn is_next(&self, from: StationId, number: Number) -> bool
         ensures { result ≡ (number.0 == (line (chans self.now) from.0).taken + 1) }
     {
-        match self.channel(from) {
-            None => number.0 == 1,
-            Some(channel) => channel.is_next(number),
-        }
+        self.channel(from)
+            .map_or(number.0 == 1, |channel| channel.is_next(number))
     }
 
     // Whether a station may acknowledge up to a number, and has not yet.
     pub fn is_news(&self, from: StationId, number: Number) -> bool
         ensures { result ≡ news (line (chans self.now) from.0) number.0 }
     {
-        match self.channel(from) {
-            None => false,
-            Some(channel) => channel.is_news(number),
-        }
+        self.channel(from)
+            .is_some_and(|channel| channel.is_news(number))
     }
 
     // Whether a piece was given to a station under a number or a later one; so 0 always was.
     pub fn was_given(&self, from: StationId, number: Number) -> bool
         ensures { result ≡ nat_le number.0 (line (chans self.now) from.0).given }
     {
-        match self.channel(from) {
-            None => number.0 == 0,
-            Some(channel) => channel.was_given(number),
-        }
+        self.channel(from)
+            .map_or(number.0 == 0, |channel| channel.was_given(number))
+    }
+
+    // The last number that was used for a piece to a station.
+    pub fn given_to(&self, to: StationId) -> Number
+        ensures { result ≡ record { 0 = (line (chans self.now) to.0).given } }
+    {
+        self.channel(to)
+            .map_or(Number(0), |channel| channel.given_to())
     }
 
     // Up to which number a station's pieces are taken.
     pub fn taken_from(&self, from: StationId) -> Number
         ensures { result ≡ record { 0 = (line (chans self.now) from.0).taken } }
     {
-        match self.channel(from) {
-            None => Number(0),
-            Some(channel) => channel.taken_to(),
-        }
+        self.channel(from)
+            .map_or(Number(0), |channel| channel.taken_to())
     }
 
     // Up to which number a station has acknowledged.
     pub fn heard_from(&self, to: StationId) -> Number
         ensures { result ≡ record { 0 = (line (chans self.now) to.0).heard } }
     {
-        match self.channel(to) {
-            None => Number(0),
-            Some(channel) => channel.heard_to(),
-        }
+        self.channel(to)
+            .map_or(Number(0), |channel| channel.heard_to())
     }
 
     // How many pieces wait for a station.
     pub fn waiting_for(&self, to: StationId) -> usize
         ensures { result ≡ length (line (chans self.now) to.0).waiting }
     {
-        match self.channel(to) {
-            None => 0,
-            Some(channel) => channel.waiting_len(),
-        }
+        self.channel(to).map_or(0, |channel| channel.waiting_len())
     }
 
     // The piece at a place of those that wait for a station, under its number.
     pub fn waiting_at(&self, to: StationId, place: usize) -> Option<(Number, Piece)>
         ensures { MatchOption result (length (line (chans self.now) to.0).waiting ≤ place) (λ q. (place < length (line (chans self.now) to.0).waiting) × (q.0 ≡ record { 0 = (line (chans self.now) to.0).heard + 1 + place }) × (q.1 ≡ slice_index_or (line (chans self.now) to.0).waiting place blank)) }
     {
-        match self.channel(to) {
-            None => None,
-            Some(channel) => channel.waiting_at(place),
-        }
+        self.channel(to)
+            .and_then(|channel| channel.waiting_at(place))
     }
 }

@@ -1,70 +1,59 @@
-// Pieces made of a seat and a trip, and pieces cut in parts.
-ghost use Rattle.std.specs.Prelude.{◌≡◌, ◌<◌, MatchOption};
-ghost use Rattle.pieces.specs.Parts.{piece_of, trip_of, has};
-ghost use Rattle.pieces.specs.Cuts.{Inside, Before, Behind};
+// Pieces made of a seat and a trip, pieces cut in parts, and their text.
+ghost use Rattle.std.specs.Prelude.{◌≡◌, ◌<◌, Some, MatchOption};
+ghost use Rattle.pieces.specs.Parts.{piece_of, has, printed};
+ghost use Rattle.pieces.specs.Cuts.{Inside, IsPart, Before, Behind};
 
 use crate::names::{Seat, Stop, Train};
 use crate::piece::Piece;
+use crate::stretch::Stretch;
 use crate::trip::Trip;
+use std::fmt;
 
 impl Piece {
     pub fn new(train: Train, seat: Seat, trip: Trip) -> Piece
         ensures { result ≡ piece_of train seat trip }
     {
-        Piece {
-            train,
-            seat,
-            from: trip.from,
-            to: trip.to,
-        }
+        Piece { train, seat, trip }
     }
 
-    pub fn trip(self) -> Trip
-        ensures { result ≡ trip_of self }
+    // Whether the piece has a stretch.
+    pub fn has(self, at: Stretch) -> bool
+        ensures { result ≡ has at.train.0 at.seat.0 at.stop.0 self }
     {
-        Trip {
-            from: self.from,
-            to: self.to,
-        }
+        at.train == self.train
+            && at.seat == self.seat
+            && self.trip.from <= at.stop
+            && at.stop < self.trip.to
     }
 
-    // Whether the piece has the stretch from a stop to the next, of a seat of a train.
-    pub fn has(self, train: Train, seat: Seat, stop: Stop) -> bool
-        ensures { result ≡ has train.0 seat.0 stop.0 self }
+    // The part of the piece from a stop to a later one; none where the other is not later.
+    fn part(self, from: Stop, to: Stop) -> Option<Piece>
+        ensures { MatchOption result ((from.0 < to.0) × (to.0 < 30) → ⊥) (λ q. (from.0 < to.0) × IsPart self q from to) }
     {
-        train.0 == self.train.0
-            && seat.0 == self.seat.0
-            && self.from.0 <= stop.0
-            && stop.0 < self.to.0
+        Some(Piece {
+            trip: Trip::new(from, to)?,
+            ..self
+        })
     }
 
     // What is left of the piece before a trip that is cut out of it, and behind it.
     pub fn cut(self, trip: Trip) -> Option<(Option<Piece>, Option<Piece>)>
         ensures { MatchOption result (Inside self trip → ⊥) (λ p. Inside self trip × Before self trip p.0 × Behind self trip p.1) }
     {
-        if trip.from.0 < self.from.0 || self.to.0 < trip.to.0 {
+        if trip.from < self.trip.from || self.trip.to < trip.to {
             return None;
         }
-        let before = if self.from.0 < trip.from.0 {
-            Some(Piece {
-                train: self.train,
-                seat: self.seat,
-                from: self.from,
-                to: trip.from,
-            })
-        } else {
-            None
-        };
-        let behind = if trip.to.0 < self.to.0 {
-            Some(Piece {
-                train: self.train,
-                seat: self.seat,
-                from: trip.to,
-                to: self.to,
-            })
-        } else {
-            None
-        };
+        let before = self.part(self.trip.from, trip.from);
+        let behind = self.part(trip.to, self.trip.to);
         Some((before, behind))
+    }
+}
+
+impl fmt::Display for Piece {
+    ghost output = { λ p. Some (printed p) };
+
+    fn fmt<W: fmt::Write>(&self, f: &mut fmt::Formatter<W>) -> fmt::Result {
+        let Trip { from, to, .. } = self.trip;
+        write!(f, "{} {}:{from}-{to}", self.train, self.seat)
     }
 }

@@ -11,7 +11,7 @@ impl Trip {
         ensures value { result ≡ trip_from from to }
         ensures means { MatchOption result ((from.0 < to.0) × (to.0 < 30) → ⊥) (λ t. (t.from ≡ from) × (t.to ≡ to) × (from.0 < to.0) × (to.0 < 30)) }
     {
-        if from.0 < to.0 && to.0 < 30 {
+        if from < to && to.0 < 30 {
             Some(Trip { from, to })
         } else {
             None

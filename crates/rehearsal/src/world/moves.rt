@@ -2,7 +2,8 @@
 ghost use Rattle.std.specs.Prelude.{◌≡◌, ℕ, ◌<◌, ◌≤◌, [], length, IfOk, vec_len, MatchOption};
 ghost use Rattle.network.specs.Promises.{Heeds};
 ghost use Rattle.network.specs.Worlds.{Steps};
-ghost use Rattle.rehearsal.specs.Seen.{seen, rows, count, states, state_of, Same, Asked, OpenedBy, asking, Delivered, Undelivered, input_of};
+ghost use Rattle.rehearsal.specs.Requests.{asking};
+ghost use Rattle.rehearsal.specs.Seen.{seen, rows, count, states, state_of, Same, Asked, OpenedBy, Delivered, Undelivered};
 ghost use Rattle.state.specs.States.{begun};
 ghost use Rattle.timetable.specs.Additions.{empty};
 
@@ -10,22 +11,13 @@ use super::World;
 use crate::post::Post;
 use crate::request::Request;
 use giving::ids::StationId;
-use giving::message::{Body, Message};
+use giving::message::Message;
+use giving::refusal::Refusal;
 use ledger::input::{Input, Outcome};
 use state::station::Station;
 use std::alloc::{AllocError, Global};
 use timetable::row::Row;
 use timetable::timetable::Timetable;
-
-// What a message is to the station that it comes to.
-fn input_of(from: StationId, body: Body) -> Input
-    ensures { result ≡ input_of from body }
-{
-    match body {
-        Body::Given(number, piece) => Input::Take(from, number, piece),
-        Body::Taken(number) => Input::Hear(from, number),
-    }
-}
 
 impl World {
     // So many stations that have done nothing yet, and a timetable with no train.
@@ -46,7 +38,7 @@ impl World {
     }
 
     // A station does what it is asked; what it takes or hears must have been said to it.
-    fn perform(&mut self, place: usize, input: Input) -> Outcome
+    fn perform(&mut self, place: usize, input: Input) -> Result<Outcome, Refusal>
         requires there { place < vec_len self.old.posts }
         requires told { Heeds self.old.said.items place input }
         ensures steps { ∥ Steps (count self.old) (rows self.old) (seen self.old) (seen self.new) ∥₁ }
@@ -56,36 +48,25 @@ impl World {
     }
 
     // A station is asked at its counter.
-    pub fn ask(&mut self, who: StationId, request: Request) -> Option<Outcome>
+    pub fn ask(&mut self, who: StationId, request: Request) -> Option<Result<Outcome, Refusal>>
         ensures steps { ∥ Steps (count self.old) (rows self.old) (seen self.old) (seen self.new) ∥₁ }
         ensures came { MatchOption result ((count self.old ≤ who.0) × Same self.old self.new) (λ o. (who.0 < count self.old) × Asked self.old who.0 (asking request) self.new o) }
     {
-        let place = who.0 as usize;
-        if place >= self.posts.len() {
-            return None;
-        }
-        match request {
-            Request::Close(train) => Some(self.perform(place, Input::Close(train))),
-            Request::Sell(piece) => Some(self.perform(place, Input::Sell(piece))),
-            Request::Undo(ticket) => Some(self.perform(place, Input::Undo(ticket))),
-            Request::Give(to, piece) => Some(self.perform(place, Input::Give(to, piece))),
-        }
+        let place = self.place(who)?;
+        Some(self.perform(place, request.into()))
     }
 
     // A train is opened at a station, and all have its row.
-    pub fn open(&mut self, who: StationId, row: Row) -> Option<Outcome>
+    pub fn open(&mut self, who: StationId, row: Row) -> Option<Result<Outcome, Refusal>>
         ensures steps { ∥ Steps (count self.old) (rows self.new) (seen self.old) (seen self.new) ∥₁ }
         ensures came { MatchOption result ((count self.old ≤ who.0) × Same self.old self.new) (λ o. (who.0 < count self.old) × OpenedBy self.old who.0 row self.new o) }
     {
-        let place = who.0 as usize;
-        if place >= self.posts.len() {
-            return None;
-        }
+        let place = self.place(who)?;
         Some(self.open_at(place, row))
     }
 
     // A station opens a train.
-    fn open_at(&mut self, place: usize, row: Row) -> Outcome
+    fn open_at(&mut self, place: usize, row: Row) -> Result<Outcome, Refusal>
         requires { place < vec_len self.old.posts }
         ensures steps { ∥ Steps (count self.old) (rows self.new) (seen self.old) (seen self.new) ∥₁ }
         ensures came { OpenedBy self.old place row self.new result }
@@ -94,19 +75,13 @@ impl World {
     }
 
     // A message that was said, now or long ago, comes to the station that it is for.
-    pub fn deliver(&mut self, at: usize) -> Option<(Message, Outcome)>
+    pub fn deliver(&mut self, at: usize) -> Option<(Message, Result<Outcome, Refusal>)>
         ensures steps { ∥ Steps (count self.old) (rows self.old) (seen self.old) (seen self.new) ∥₁ }
         ensures came { MatchOption result (Undelivered self.old at × Same self.old self.new) (λ q. Delivered self.old at self.new q.0 q.1) }
     {
-        if at >= self.said.len() {
-            return None;
-        }
-        let message = self.said[at];
-        let place = message.to.0 as usize;
-        if place >= self.posts.len() {
-            return None;
-        }
-        let outcome = self.perform(place, input_of(message.from, message.body));
-        Some((message, outcome))
+        let message = *self.said.get(at)?;
+        let place = self.place(message.to)?;
+        let answer = self.perform(place, message.into());
+        Some((message, answer))
     }
 }

@@ -1,9 +1,10 @@
 // What a world shows.
-ghost use Rattle.std.specs.Prelude.{◌≡◌, ◌<◌, ◌≤◌, length, MatchOption, slice_index_or};
+ghost use Rattle.std.specs.Prelude.{◌≡◌, ◌<◌, ◌≤◌, length, MatchOption, slice_index_or, vec_len};
 ghost use Rattle.rehearsal.specs.Seen.{rows, count, state_of};
 ghost use Rattle.state.specs.Views.{view};
 
 use super::World;
+use crate::post::Post;
 use giving::ids::StationId;
 use giving::message::Message;
 use pieces::names::Train;
@@ -18,14 +19,26 @@ impl World {
         self.posts.len() as u8
     }
 
+    // The place of a station, if it is there.
+    pub(super) fn place(&self, who: StationId) -> Option<usize>
+        ensures { MatchOption result (count self.now ≤ who.0) (λ k. (who.0 < count self.now) × (k ≡ who.0)) }
+    {
+        (who.0 < self.stations()).then_some(usize::from(who.0))
+    }
+
+    // A station that is there, with its journal.
+    pub(super) fn post(&self, who: StationId) -> &Post
+        requires { who.0 < vec_len self.now.posts }
+        ensures { result.now ≡ slice_index_or self.now.posts.items who.0 result.now }
+    {
+        &self.posts[usize::from(who.0)]
+    }
+
     // A station, if it is there.
     pub fn station(&self, who: StationId) -> Option<&Station>
         ensures { MatchOption result (count self.now ≤ who.0) (λ s. (who.0 < count self.now) × (view s.now ≡ state_of self.now who.0)) }
     {
-        let place = who.0 as usize;
-        if place >= self.posts.len() {
-            return None;
-        }
+        let place = self.place(who)?;
         Some(&self.posts[place].station)
     }
 
@@ -36,20 +49,10 @@ impl World {
         self.trains.row(train)
     }
 
-    // How many messages were ever said.
-    pub fn said_count(&self) -> usize
-        ensures { result ≡ length self.now.said.items }
+    // All that was ever said, in order.
+    pub fn said(&self) -> &[Message]
+        ensures { result.now ≡ self.now.said.items }
     {
-        self.said.len()
-    }
-
-    // A message by its place in the order in which all were said.
-    pub fn message(&self, at: usize) -> Option<Message>
-        ensures { MatchOption result (length self.now.said.items ≤ at) (λ m. (at < length self.now.said.items) × (m ≡ slice_index_or self.now.said.items at m)) }
-    {
-        if at >= self.said.len() {
-            return None;
-        }
-        Some(self.said[at])
+        &self.said
     }
 }

@@ -3,33 +3,40 @@ ghost use Rattle.std.specs.Prelude.{◌≡◌, ◌+◌, ◌-◌, ◌<◌, true, 
 ghost use Rattle.giving.specs.Calls.{givable};
 ghost use Rattle.giving.specs.Channels.{gave, heard_to, line, news, other, took};
 ghost use Rattle.giving.specs.declared.refusal.Refusal.TheVariants.{Memory};
-ghost use Rattle.state.specs.Changes.{apply, closing, fits, forgotten, opened, put_back, received, returned, taken_out, with_line, with_tickets};
+ghost use Rattle.state.specs.Changes.{apply, changed, closing, fits, forgotten, opened, put_back, received, returned, taken_out, with_line, with_tickets};
 ghost use Rattle.state.specs.Ready.{Ready, Seated, Spent, Standing, trimming};
 ghost use Rattle.state.specs.States.{is_open, known, openable, ticket_of, tickets_left};
 ghost use Rattle.state.specs.Views.{view};
-ghost use Rattle.state.specs.declared.record.Sale.TheVariants.{Stands, Returned};
 ghost use Rattle.timetable.specs.Rows.{listed};
 ghost use Rattle.timetable.specs.Tables.{table as rows_of};
 
 use super::Station;
 use super::sales::{forget_all, stale_count};
-use crate::record::{Record, Sale, Slot};
+use crate::record::Record;
 use giving::ids::{Number, StationId, Ticket};
 use giving::refusal::Refusal;
-use pieces::memory::{open_at, put_in_at, take_out_at};
+use pieces::change::{Change, PutBack, TakeOut};
 use pieces::names::Train;
 use pieces::piece::Piece;
 use pieces::seats::full;
 use timetable::timetable::Timetable;
 
 impl Station {
+    // Changes what is held of a piece.
+    fn change<C: Change>(&mut self, piece: Piece)
+        requires { Seated (view self.old) piece }
+        ensures { view self.new ≡ changed C.changed (view self.old) piece }
+    {
+        let slot = self.slot(Some(piece.train)).unwrap();
+        self.memory.change::<C>(slot, piece.seat, piece.trip);
+    }
+
     // Takes a piece out of what is held.
     fn take_out(&mut self, piece: Piece)
         requires { Seated (view self.old) piece }
         ensures { view self.new ≡ taken_out (view self.old) piece }
     {
-        let place = self.place(Slot::Open(piece.train));
-        take_out_at(&mut self.words, place, piece.seat, piece.trip());
+        self.change::<TakeOut>(piece);
     }
 
     // Puts a piece back into what is held.
@@ -37,8 +44,7 @@ impl Station {
         requires { Seated (view self.old) piece }
         ensures { view self.new ≡ put_back (view self.old) piece }
     {
-        let place = self.place(Slot::Open(piece.train));
-        put_in_at(&mut self.words, place, piece.seat, piece.trip());
+        self.change::<PutBack>(piece);
     }
 
     // Forgets the tickets of a train.
@@ -53,9 +59,7 @@ impl Station {
         ensures { view self.new ≡ trimming (view self.old) }
     {
         let count = stale_count(&self.tickets);
-        let left = self.tickets.len() - count;
-        self.tickets.rotate_left(count);
-        self.tickets.truncate(left);
+        self.tickets.drain(..count);
         self.dropped += count as u32;
     }
 
@@ -67,14 +71,14 @@ impl Station {
         let Some(row) = table.row(train) else {
             return;
         };
-        let place = self.place(Slot::Free);
-        let word = if self.me().0 == row.first.0 {
+        let slot = self.slot(None).unwrap();
+        let word = if self.me() == row.first {
             full(row.stops)
         } else {
             0
         };
-        open_at(&mut self.words, place, row.seats, word);
-        self.slots[place] = Slot::Open(train);
+        self.memory.open(slot, row.seats, word);
+        self.slots[slot.index()] = Some(train);
     }
 
     // Opens a train that is not open.
@@ -94,8 +98,8 @@ impl Station {
         requires ready { vec_len self.old.closed < vec_capacity self.old.closed }
         ensures { view self.new ≡ closing train (view self.old) }
     {
-        let place = self.place(Slot::Open(train));
-        self.slots[place] = Slot::Free;
+        let slot = self.slot(Some(train)).unwrap();
+        self.slots[slot.index()] = None;
         self.closed.push_reserved(train);
         self.forget(train);
         self.trim();
@@ -106,21 +110,19 @@ impl Station {
         requires seated { Seated (view self.old) piece }
         requires left { tickets_left (view self.old) ≡ true }
         requires ready { vec_len self.old.tickets < vec_capacity self.old.tickets }
-        ensures { view self.new ≡ with_tickets (taken_out (view self.old) piece) ((view self.old).tickets ++ Stands piece ∷ []) }
+        ensures { view self.new ≡ with_tickets (taken_out (view self.old) piece) ((view self.old).tickets ++ Some piece ∷ []) }
     {
-        self.tickets.push_reserved(Sale::Stands(piece));
+        self.tickets.push_reserved(Some(piece));
         self.take_out(piece);
     }
 
     // Undoes a ticket that stands.
     fn undo(&mut self, n: Ticket)
         requires { Standing (view self.old) (ticket_of (view self.old) n.0) }
-        ensures { view self.new ≡ with_tickets (returned (ticket_of (view self.old) n.0) (view self.old)) (slice_set (view self.old).tickets (n.0 - 1 - (view self.old).dropped) Returned) }
+        ensures { view self.new ≡ with_tickets (returned (ticket_of (view self.old) n.0) (view self.old)) (slice_set (view self.old).tickets (n.0 - 1 - (view self.old).dropped) None) }
     {
-        let Sale::Stands(sold) = self.ticket(n) else {
-            return;
-        };
-        self.tickets[(n.0 - 1 - self.dropped) as usize] = Sale::Returned;
+        let sold = self.ticket(n).unwrap();
+        self.tickets[(n.0 - 1 - self.dropped) as usize] = None;
         self.put_back(sold);
     }
 
@@ -130,7 +132,7 @@ impl Station {
         requires goes { (givable (view self.old).channels to.0 && other (view self.old).me (view self.old).channels to.0) ≡ true }
         ensures { view self.new ≡ with_line (taken_out (view self.old) piece) to (gave (line (view self.old).channels to.0) piece) }
     {
-        let _ = self.channels.give(to, piece);
+        self.channels.give(to, piece).unwrap();
         self.take_out(piece);
     }
 
@@ -155,7 +157,7 @@ impl Station {
         ensures { view self.new ≡ with_line (received (rows_of table.now) (view self.old) piece) from (took (line (view self.old).channels from.0)) }
     {
         self.receive(table, piece);
-        let _ = self.channels.receive(from, number);
+        self.channels.receive(from, number).unwrap();
     }
 
     // Another station has taken all up to a number.
@@ -163,7 +165,7 @@ impl Station {
         requires { (other (view self.old).me (view self.old).channels from.0 && news (line (view self.old).channels from.0) number.0) ≡ true }
         ensures { view self.new ≡ with_line (view self.old) from (heard_to (line (view self.old).channels from.0) number.0) }
     {
-        let _ = self.channels.hear(from, number);
+        self.channels.hear(from, number).unwrap();
     }
 
     // Finds the memory for what a record adds.
@@ -171,15 +173,12 @@ impl Station {
         ensures state { view self.new ≡ view self.old }
         ensures cases { MatchResult result (λ _. Ready self.new entry) (λ e. (e ≡ Memory) × Spent self.old entry) }
     {
-        let found = match entry {
-            Record::Sold(_, _) => self.tickets.reserve(1),
-            Record::Closed(_) => self.closed.reserve(1),
-            _ => Ok(()),
-        };
-        match found {
-            Ok(()) => Ok(()),
-            Err(_) => Err(Refusal::Memory),
+        match entry {
+            Record::Sold(_, _) => self.tickets.reserve(1)?,
+            Record::Closed(_) => self.closed.reserve(1)?,
+            _ => {}
         }
+        Ok(())
     }
 
     // Makes the change of a record that fits.

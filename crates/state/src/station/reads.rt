@@ -1,54 +1,35 @@
 // What a station can tell.
-ghost use Rattle.std.specs.Prelude.{◌≡◌, ◌≤◌, true, ◌&&◌, length, IfOk, MatchOption, nat_lt, slice_index_or};
+ghost use Rattle.std.specs.Prelude.{◌≡◌, ◌<◌, ◌≤◌, true, ◌&&◌, length, IfOk, MatchOption, nat_lt};
 ghost use Rattle.pieces.specs.Memory.{word_at};
 ghost use Rattle.pieces.specs.Search.{NoneCovers, Lowest};
 ghost use Rattle.pieces.specs.Stretches.{holds};
 ghost use Rattle.state.specs.States.{begun, same, place_of, place, is_open, was_closed, known, openable, holds_piece, sold, tickets_left, ticket_of};
 ghost use Rattle.state.specs.Views.{view};
-ghost use Rattle.state.specs.declared.record.Sale.TheVariants.{Returned};
 
 use super::Station;
-use crate::record::{Sale, Slot};
 use giving::channels::Channels;
 use giving::ids::{StationId, Ticket};
-use pieces::memory::{PLACES, SEATS, covers_at, holds_at, lowest_at};
-use pieces::names::{Seat, Stop, Train};
+use pieces::memory::{Memory, PLACES, Slot};
+use pieces::names::{Seat, Train};
 use pieces::piece::Piece;
+use pieces::stretch::Stretch;
 use pieces::trip::Trip;
 use std::alloc::{AllocError, Global};
 
 // No more trains may be closed, for a station to open one.
 pub const MOST_CLOSED: usize = 65536;
 
-// Whether two places have the same train, or none.
-fn is_same(a: Slot, b: Slot) -> bool
-    ensures { result ≡ same a b }
-{
-    match a {
-        Slot::Free => match b {
-            Slot::Free => true,
-            Slot::Open(_) => false,
-        },
-        Slot::Open(x) => match b {
-            Slot::Free => false,
-            Slot::Open(y) => x.0 == y.0,
-        },
-    }
-}
-
 impl Station {
     // Station `me` of so many, which has done nothing yet.
     pub fn new(heap: Global, me: StationId, stations: u16) -> Result<Station, AllocError>
         ensures { IfOk result (λ s. view s ≡ begun stations me.0) }
     {
-        let mut slots = Vec::new(heap);
-        slots.resize(PLACES, Slot::Free)?;
-        let mut words = Vec::new(heap);
-        words.resize(PLACES * SEATS, 0)?;
+        let slots = vec![in heap; None; PLACES]?;
+        let memory = Memory::new(heap)?;
         let channels = Channels::new(heap, me, stations)?;
         Ok(Station {
             slots,
-            words,
+            memory,
             closed: Vec::new(heap),
             dropped: 0,
             tickets: Vec::new(heap),
@@ -75,33 +56,29 @@ impl Station {
         &self.channels
     }
 
-    // The first place of a slot, or the number of places.
-    pub fn place(&self, slot: Slot) -> usize
-        ensures { result ≡ place_of (view self.now).slots slot }
+    // The first slot of a train, or the first free one.
+    pub fn slot(&self, train: Option<Train>) -> Option<Slot>
+        ensures { MatchOption result (length (view self.now).slots ≤ place_of (view self.now).slots train)
+            (λ slot. (place_of (view self.now).slots train < length (view self.now).slots) × (slot.index ≡ place_of (view self.now).slots train)) }
     {
-        for (i, there) in self.slots.iter().enumerate() {
-            if is_same(*there, slot) {
-                return i;
+        for (index, there) in self.slots.iter().enumerate() {
+            if *there == train {
+                return Slot::new(index);
             }
         }
-        self.slots.len()
+        None
     }
 
     pub fn is_open(&self, train: Train) -> bool
         ensures { result ≡ is_open (view self.now) train }
     {
-        self.place(Slot::Open(train)) < self.slots.len()
+        self.slot(Some(train)).is_some()
     }
 
     pub fn was_closed(&self, train: Train) -> bool
         ensures { result ≡ was_closed (view self.now) train }
     {
-        for closed in self.closed.iter() {
-            if train.0 == closed.0 {
-                return true;
-            }
-        }
-        false
+        self.closed.contains(&train)
     }
 
     // Whether a train is open or was closed.
@@ -115,29 +92,27 @@ impl Station {
     pub fn is_openable(&self) -> bool
         ensures { result ≡ openable (view self.now) }
     {
-        self.place(Slot::Free) < self.slots.len() && self.closed.len() < MOST_CLOSED
+        self.slot(None).is_some() && self.closed.len() < MOST_CLOSED
     }
 
     // Whether each stretch of a piece is held.
     pub fn holds_piece(&self, piece: Piece) -> bool
         ensures { result ≡ holds_piece (view self.now) piece }
     {
-        let place = self.place(Slot::Open(piece.train));
-        if usize::from(piece.seat.0) >= SEATS || place >= PLACES {
+        let Some(slot) = self.slot(Some(piece.train)) else {
             return false;
-        }
-        covers_at(&self.words, place, piece.seat, piece.trip())
+        };
+        self.memory.covers(slot, piece.seat, piece.trip)
     }
 
-    // Whether the stretch from a stop to the next is held, of a seat of an open train.
-    pub fn holds_stretch(&self, train: Train, seat: Seat, stop: Stop) -> bool
-        ensures { result ≡ (nat_lt seat.0 400 && (is_open (view self.now) train && holds (word_at (view self.now).words (place (view self.now) train) seat.0) stop.0)) }
+    // Whether a stretch of a seat of an open train is held.
+    pub fn holds_stretch(&self, at: Stretch) -> bool
+        ensures { result ≡ (nat_lt at.seat.0 400 && (is_open (view self.now) at.train && holds (word_at (view self.now).words (place (view self.now) at.train) at.seat.0) at.stop.0)) }
     {
-        let place = self.place(Slot::Open(train));
-        if usize::from(seat.0) >= SEATS || place >= PLACES {
+        let Some(slot) = self.slot(Some(at.train)) else {
             return false;
-        }
-        holds_at(&self.words, place, seat, stop)
+        };
+        self.memory.holds(slot, at.seat, at.stop)
     }
 
     // The lowest of the first `count` seats that covers a trip; a train that is not open has none.
@@ -146,11 +121,8 @@ impl Station {
         ensures { MatchOption result (is_open (view self.now) train ≡ true → NoneCovers (word_at (view self.now).words (place (view self.now) train)) count trip.from.0 trip.to.0)
             (λ seat. (is_open (view self.now) train ≡ true) × Lowest (word_at (view self.now).words (place (view self.now) train)) count trip.from.0 trip.to.0 seat.0) }
     {
-        let place = self.place(Slot::Open(train));
-        if place >= PLACES {
-            return None;
-        }
-        lowest_at(&self.words, place, count, trip)
+        let slot = self.slot(Some(train))?;
+        self.memory.lowest(slot, count, trip)
     }
 
     // How many tickets were ever sold.
@@ -167,29 +139,18 @@ impl Station {
         self.sold_count() < u32::MAX
     }
 
-    // How many tickets are kept.
-    pub fn standing_len(&self) -> usize
-        ensures { result ≡ length (view self.now).tickets }
+    // The tickets that are kept, in the order of their numbers.
+    pub fn tickets(&self) -> &[Option<Piece>]
+        ensures { result.now ≡ (view self.now).tickets }
     {
-        self.tickets.len()
+        &self.tickets
     }
 
-    // The ticket at a place of those that are kept.
-    pub fn standing_at(&self, k: usize) -> Sale
-        ensures { result ≡ slice_index_or (view self.now).tickets k Returned }
-    {
-        match self.tickets.get(k) {
-            None => Sale::Returned,
-            Some(sale) => *sale,
-        }
-    }
-
-    pub fn ticket(&self, n: Ticket) -> Sale
+    // The piece of a ticket that stands.
+    pub fn ticket(&self, n: Ticket) -> Option<Piece>
         ensures { result ≡ ticket_of (view self.now) n.0 }
     {
-        if n.0 <= self.dropped {
-            return Sale::Returned;
-        }
-        self.standing_at((n.0 - 1 - self.dropped) as usize)
+        let at = n.0.checked_sub(self.dropped)?.checked_sub(1)?;
+        *self.tickets.get(at as usize)?
     }
 }

@@ -34,36 +34,24 @@ impl Timetable {
     pub fn is_listed(&self, piece: Piece) -> bool
         ensures { result ≡ listed (table self.now piece.train.0) piece }
     {
-        match self.row(piece.train) {
-            None => false,
-            Some(row) => row.has(piece),
-        }
+        self.row(piece.train).is_some_and(|row| row.has(piece))
     }
 
     // Whether a row may be put in: its train has none yet, or this one.
     pub fn admits(&self, row: Row) -> bool
         ensures { result ≡ admitted (table self.now row.train.0) row }
     {
-        match self.row(row.train) {
-            None => true,
-            Some(there) => there.is_same(row),
-        }
+        self.row(row.train).is_none_or(|there| there == row)
     }
 
     // Puts a row in.
     pub fn add(&mut self, row: Row) -> Result<(), Refusal>
         ensures { Added (table self.old) row (table self.new) result }
     {
-        if let Some(there) = self.row(row.train) {
-            return if there.is_same(row) {
-                Ok(())
-            } else {
-                Err(Refusal::Malformed)
-            };
+        if !self.admits(row) {
+            return Err(Refusal::Malformed);
         }
-        if self.rows.insert(row.train, row).is_err() {
-            return Err(Refusal::Memory);
-        }
+        self.rows.insert(row.train, row)?;
         Ok(())
     }
 }

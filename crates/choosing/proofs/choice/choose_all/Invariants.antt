@@ -3,4 +3,4 @@ use Rattle.choosing.proofs.Seated.{Seated}
 use Rattle.choosing.proofs.choice.choose_all.Given as goal
 
 abbrev pub invariant-loop : goal.invariant-loop
-invariant-loop l = Seated l.initial.party.train l.trip (λ (k : ℕ). get_or l.words k 0) (length l.words) l.counter l.party
+invariant-loop l = Seated l.fn.train l.trip (λ (k : ℕ). get_or l.words k 0) (length l.words) l.counter l.party

@@ -3,8 +3,6 @@ use Rattle.pieces.proofs.Around.{spare_is}
 use Rattle.pieces.proofs.words.leftover.Goals as goal
 
 pub returns : goal.returns
-returns c = (
-  c.if-not-covers.ensures.means.0 refl,
-  spare_is _ _ _ _ _ c.run_start.ensures.value c.run_end.ensures.value,
-  (c.run_start.result, c.run_end.result, c.run_start.ensures.run, c.run_end.ensures.run, refl),
-)
+returns c =
+    let run = c.in_ok-run.ensures in
+    (run.0, spare_is _ _ _ _ _ run.1 run.2, (_, _, run.1, run.2, refl))

@@ -1,5 +1,7 @@
+use Rattle.std.proofs.Common.{refl, ap}
+use Rattle.std.proofs.Common.{set}
 use Rattle.choosing.proofs.Parties.{one_more}
 use Rattle.choosing.proofs.party.Party.push.Goals as goal
 
 pub returns : goal.returns
-returns c z t ss h = one_more c.args.self.now z t ss c.args.seat c.from.result c.from.ensures c.requires h
+returns c z t ss h = one_more c.args.self.now _ z t ss c.args.seat c.requires h refl refl (ap (λ i. set c.args.self.now.seats i c.args.seat) c.from.ensures) refl

@@ -1,25 +1,17 @@
-use Rattle.std.proofs.Common.{vec_items, sym, refl, subst, inl, inr, arith}
-use Rattle.network.specs.Promises.{Heeds}
+use Rattle.std.proofs.Common.{◌≡◌, ◌<◌, length, get_or, vec_items, subst, arith}
 use Rattle.network.specs.Worlds.{none}
 use Rattle.rehearsal.proofs.Living.{told_from}
-use Rattle.rehearsal.specs.Seen.{Asked}
 use Rattle.rehearsal.proofs.world.World.deliver.Goals as goal
 
-pub returns-then-at-len : goal.returns-then-at-len
-returns-then-at-len c = record { steps = ∣ none ∣₁; came = (inl (omega arith), record { trains = refl; states = refl; journals = refl; said = refl }) }
+pub returns-in_err-message-clause-steps : goal.returns-in_err-message-clause-steps
+returns-in_err-message-clause-steps c = ∣ none ∣₁
 
-pub returns-then-place-len : goal.returns-then-place-len
-returns-then-place-len c =
-    record { steps = ∣ none ∣₁; came = (inr (c.index-message.result.now, omega arith, c.index-message.ensures, omega arith), record { trains = refl; states = refl; journals = refl; said = refl }) }
+pub returns-in_err-place-clause-steps : goal.returns-in_err-place-clause-steps
+returns-in_err-place-clause-steps c = ∣ none ∣₁
 
-pub perform-outcome-requires : goal.perform-outcome-requires
-perform-outcome-requires c = record {
-  there = omega arith;
-  told = subst (λ x. Heeds (vec_items c.args.self.now.said) c.index-message.result.now.to.0 x) (sym c.input_of.ensures) (told_from (vec_items c.args.self.now.said) c.args.at c.index-message.result.now _ (omega arith) c.index-message.ensures);
-}
-
-pub returns : goal.returns
-returns c = record {
-  steps = c.perform-outcome.ensures.steps;
-  came = ((omega arith, c.index-message.ensures, omega arith), subst (λ x. Asked c.args.self.now c.index-message.result.now.to.0 x c.perform-outcome.new.self c.perform-outcome.result) c.input_of.ensures c.perform-outcome.ensures.came);
-}
+pub perform-answer-requires-clause-told : goal.perform-answer-requires-clause-told
+perform-answer-requires-clause-told c =
+    let m = c.in_ok-message.field-0.now in
+    let found = c.in_ok-message.ensures.lookup in
+    let there : c.args.at < length (vec_items c.args.self.now.said) = omega (arith, found.3.0, c.deref.ensures.len) in
+    told_from _ c.args.at m m _ _ there (subst (λ ms. m ≡ get_or ms c.args.at m) c.deref.ensures.value found.1) c.in_ok-place.ensures.1 c.into.ensures

@@ -1,30 +1,25 @@
 use mathlib.Core.Logic.{∥∥₁_elim}
-use Rattle.std.proofs.Common.{◌≡◌, ℕ, ◌<◌, ◌≤◌, [], length, vec_items, ap, ◌∙◌, arith}
+use Rattle.std.proofs.Common.{◌≡◌, ℕ, ◌<◌, [], length, vec_items, ap, ◌∙◌, arith}
 use native.Mathlib.Nat.{ℕ_set}
 use Rattle.network.specs.Places.{gather}
-use Rattle.rehearsal.proofs.Finding.{found_none, found_more}
+use Rattle.rehearsal.proofs.Gathered.{found_none, found_more}
 use Rattle.rehearsal.proofs.Living.{one_place}
 use Rattle.rehearsal.specs.Found.{spots_of, places_of}
-use Rattle.rehearsal.specs.Seen.{count}
 use Rattle.rehearsal.proofs.world.World.find.Goals as goal
 
 pub loop-k-init : goal.loop-k-init
-loop-k-init c s n = c.new-found.ensures.items ∙ found_none [] (spots_of c.args.self.now c.args.train c.args.seat.0 c.args.stop.0)
+loop-k-init c s = c.new-found.ensures.items ∙ found_none [] (spots_of c.args.self.now c.args.at.train c.args.at.seat.0 c.args.at.stop.0)
 
 pub loop-k-preserved : goal.loop-k-preserved
-loop-k-preserved c s n =
-    found_more [] _ _ c.loop-k.k (spots_of c.args.self.now c.args.train c.args.seat.0 c.args.stop.0) (c.loop-k.invariant s n) (c.in_ok-spots.ensures s n)
+loop-k-preserved c s =
+    found_more [] _ _ c.loop-k.k (spots_of c.args.self.now c.args.at.train c.args.at.seat.0 c.args.at.stop.0) (c.loop-k.invariant s) (c.in_ok-spots.ensures s)
 
-pub returns : goal.returns
-returns c =
+pub returns-clause-one : goal.returns-clause-one
+returns-clause-one c =
     let w = c.args.self.now in
-    let t = c.args.train in
-    let s = c.args.seat.0 in
-    let u = c.args.stop.0 in
-    let few : count w ≤ 256 = omega (arith, w.few) in
+    let t = c.args.at.train in
+    let s = c.args.at.seat.0 in
+    let u = c.args.at.stop.0 in
     let whole : s < 400 → vec_items c.loop-k.found ≡ places_of w t s u =
-    λ h. c.loop-k.invariant h few ∙ ap (λ (k : ℕ). gather k (spots_of w t s u)) (omega (arith, few, c.loop-k-test.false, c.loop-k.auto.k-end, c.min-k-end.ensures, c.len.ensures)) in
-    record {
-      all = whole;
-      one = λ r e o shut ls lu. ap length (whole (omega (arith, ls, r.few))) ∙ ∥∥₁_elim w.lives (ℕ_set _ _) (λ l. one_place _ _ _ l t r e o shut s u ls lu);
-    }
+    λ h. c.loop-k.invariant h ∙ ap (λ (k : ℕ). gather k (spots_of w t s u)) (omega (arith, c.loop-k-test.false, c.loop-k.auto.k-end, c.stations-k-end.ensures)) in
+    λ r e o shut ls lu. ap length (whole (omega (arith, ls, r.few))) ∙ ∥∥₁_elim w.lives (ℕ_set _ _) (λ l. one_place _ _ _ l t r e o shut s u ls lu)

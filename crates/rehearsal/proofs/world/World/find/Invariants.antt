@@ -1,8 +1,7 @@
-use Rattle.std.proofs.Common.{◌≡◌, ◌<◌, ◌≤◌, vec_items}
+use Rattle.std.proofs.Common.{◌≡◌, ◌<◌, vec_items}
 use Rattle.network.specs.Places.{gather}
 use Rattle.rehearsal.specs.Found.{spots_of}
-use Rattle.rehearsal.specs.Seen.{count}
 use Rattle.rehearsal.proofs.world.World.find.Given as goal
 
 abbrev pub invariant-loop-k : goal.invariant-loop-k
-invariant-loop-k l = l.seat.0 < 400 → count l.self ≤ 256 → vec_items l.found ≡ gather l.k (spots_of l.self l.train l.seat.0 l.stop.0)
+invariant-loop-k l = l.at.seat.0 < 400 → vec_items l.found ≡ gather l.k (spots_of l.self l.at.train l.at.seat.0 l.at.stop.0)

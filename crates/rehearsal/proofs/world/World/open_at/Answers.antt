@@ -7,10 +7,10 @@ use Rattle.rehearsal.specs.Lives.{shown, nowhere}
 use Rattle.timetable.specs.Tables.{table}
 use Rattle.rehearsal.proofs.world.World.open_at.Goals as goal
 
-pub invariant_of-self : goal.invariant_of-self
-invariant_of-self c =
+pub invariant_of-self-clause-lives : goal.invariant_of-self-clause-lives
+invariant_of-self-clause-lives c =
     let b : c.args.place < length (vec_items c.args.self.now.posts) = omega arith in
-    record { lives = ∥∥₁_map c.args.self.now.lives (λ l. opened_lives _ _ _ l c.args.place c.index_mut.result.now c.open.new.self b c.index_mut.ensures.value c.open.result c.open.ensures.written c.args.row (table c.open.new.trains) c.open.ensures.listed c.open.ensures.state c.open.ensures.answer); few = c.args.self.now.few }
+    ∥∥₁_map c.args.self.now.lives (λ l. opened_lives _ _ _ l c.args.place c.index_mut.result.now c.open.new.self b c.index_mut.ensures.value c.open.result c.open.ensures.written c.args.row (table c.open.new.trains) c.open.ensures.listed c.open.ensures.state c.open.ensures.answer)
 
 pub returns : goal.returns
 returns c =

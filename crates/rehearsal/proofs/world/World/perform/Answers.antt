@@ -6,10 +6,10 @@ use Rattle.rehearsal.proofs.Living.{called_steps, called_lives, here_is, at_post
 use Rattle.timetable.specs.Tables.{table}
 use Rattle.rehearsal.proofs.world.World.perform.Goals as goal
 
-pub invariant_of-self : goal.invariant_of-self
-invariant_of-self c =
+pub invariant_of-self-clause-lives : goal.invariant_of-self-clause-lives
+invariant_of-self-clause-lives c =
     let b : c.args.place < length (vec_items c.args.self.now.posts) = omega arith in
-    record { lives = ∥∥₁_map c.args.self.now.lives (λ l. called_lives _ _ _ l c.args.place c.index_mut.result.now c.ask.new.self b c.index_mut.ensures.value c.ask.result c.ask.ensures.written c.args.input _ c.ask.ensures.state c.ask.ensures.said c.requires.told c.ask.ensures.answer); few = c.args.self.now.few }
+    ∥∥₁_map c.args.self.now.lives (λ l. called_lives _ _ _ l c.args.place c.index_mut.result.now c.ask.new.self b c.index_mut.ensures.value c.ask.result c.ask.ensures.written c.args.input _ c.ask.ensures.state c.ask.ensures.said c.requires.told c.ask.ensures.answer)
 
 pub returns : goal.returns
 returns c =

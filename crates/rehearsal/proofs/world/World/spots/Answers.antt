@@ -13,12 +13,12 @@ returns c =
     let w = c.args.self.now in
     let ps = vec_items w.posts in
     let i = c.args.who.0 in
-    let t = c.args.train in
-    let s = c.args.seat.0 in
-    let u = c.args.stop.0 in
+    let t = c.args.at.train in
+    let s = c.args.at.seat.0 in
+    let u = c.args.at.stop.0 in
     let b : i < length ps = omega arith in
     let xs = vec_items c.args.found.now in
-    let held : s < 400 → c.holds_stretch.result ≡ holding t s u (state_of w i) = λ l. c.holds_stretch.ensures ∙ held_at _ ps _ w.lives t s u l i c.index.result.now b c.index.ensures in
+    let held : s < 400 → c.holds_stretch.result ≡ holding t s u (state_of w i) = λ l. c.holds_stretch.ensures ∙ held_at _ ps _ w.lives t s u l i c.post.result.now b c.post.ensures in
     let first : s < 400 → vec_items c.if-holds_stretch.found ≡ xs ++ cond (holding t s u (state_of w i)) (Held c.args.who ∷ []) [] =
     λ l. elim c.if-holds_stretch.branch [
       | then-holds_stretch+in_ok-push v ↦ found_then _ xs _ _ (sym (held l) ∙ v.if-holds_stretch.true) (ap (λ x. vec_items x) v.found-is ∙ v.in_ok-push.ensures.items)
@@ -26,5 +26,5 @@ returns c =
     ] in
     let second : vec_items c.push_many.new.found ≡ vec_items c.if-holds_stretch.found ++ replicate (count_in t s u (standing (state_of w i).tickets)) (Sold c.args.who) =
     c.in_ok-push_many.ensures
-    ∙ ap (λ (n : ℕ). vec_items c.if-holds_stretch.found ++ replicate n (Sold c.args.who)) (c.count_sold.ensures ∙ ap (λ x. count_in t s u (standing x.tickets)) (sym (here_is ps i c.index.result.now b c.index.ensures))) in
-    IfOk-weaker c.ways.result _ _ (λ _ h l n. found_three xs _ _ _ _ _ _ (first l) second (h n)) c.ways.ensures
+    ∙ ap (λ (n : ℕ). vec_items c.if-holds_stretch.found ++ replicate n (Sold c.args.who)) (c.count_sold.ensures ∙ ap (λ x. count_in t s u (standing x.tickets)) (sym (here_is ps i c.post.result.now b c.post.ensures))) in
+    IfOk-weaker c.ways.result _ _ (λ _ h l. found_three xs _ _ _ _ _ _ (first l) second h) c.ways.ensures

@@ -1,6 +1,7 @@
-use Rattle.std.proofs.Common.{rules}
+use Rattle.std.proofs.Common.{arith}
+use Rattle.std.proofs.lemmas.Grind.{common_steps}
 use Rattle.state.proofs.Held.{uncovered}
 use Rattle.state.proofs.station.Station.holds_piece.Goals as goal
 
-pub returns-then-from-ge-SEATS : goal.returns-then-from-ge-SEATS
-returns-then-from-ge-SEATS c = search (rules, uncovered)
+pub returns-in_default : goal.returns-in_default
+returns-in_default c = grind (arith, common_steps, uncovered)

@@ -7,7 +7,7 @@ use Rattle.state.proofs.station.Station.receive.Goals as goal
 
 pub put_back-requires : goal.put_back-requires
 put_back-requires c = (
-  listed_seat (table c.args.table.now c.args.piece.train.0) c.args.piece c.requires.listed,
+  search (rules, listed_seat),
   ap (λ (s : State). is_open s c.args.piece.train) c.open_unless_open.ensures
       ∙ open_after (table c.args.table.now c.args.piece.train.0) c.args.piece (view c.args.self.now) c.requires.listed (search rules),
 )

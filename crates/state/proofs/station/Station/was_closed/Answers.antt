@@ -1,12 +1,7 @@
-use Rattle.std.proofs.Common.{rules}
-use Rattle.state.proofs.Searches.{searches}
+use Rattle.std.proofs.Common.{ap, ◌∙◌}
+use Rattle.std.specs.List.{list_any}
+use Rattle.state.proofs.Searches.{among_is}
 use Rattle.state.proofs.station.Station.was_closed.Goals as goal
 
-pub returns-then-train-closed : goal.returns-then-train-closed
-returns-then-train-closed c = search (rules, searches)
-
-pub loop-closed-preserved : goal.loop-closed-preserved
-loop-closed-preserved c = search (rules, searches)
-
 pub returns : goal.returns
-returns c = search (rules, searches)
+returns c = c.contains.ensures.value ∙ ap (list_any _) c.deref.ensures.value ∙ among_is c.args.self.now.closed.items c.args.train

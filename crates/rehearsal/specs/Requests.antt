@@ -1,0 +1,11 @@
+-- What a request at the counter is to the station.
+use Rattle.ledger.specs.declared.input.Input.{Input}
+use Rattle.ledger.specs.declared.input.Input.TheVariants.{Close, Sell, Undo, Give}
+use Rattle.rehearsal.specs.declared.request.Request.{Request}
+use Rattle.rehearsal.specs.declared.request.Request.TheVariants as request
+
+abbrev pub asking : Request → Input
+asking (request.Close t) = Close t
+asking (request.Sell p) = Sell p
+asking (request.Undo n) = Undo n
+asking (request.Give to p) = Give to p

@@ -1,0 +1,23 @@
+-- What is printed of messages.
+use Rattle.std.specs.Prelude.{ℕ, ◌-◌, ◌^◌, false, List, [], ◌++◌, codes}
+use Rattle.std.specs.Fmt.{decimal, digits, format_spec, padded_integral}
+use Rattle.giving.specs.declared.message.Body.{Body}
+use Rattle.giving.specs.declared.message.Body.TheVariants.{Given, Taken}
+use Rattle.giving.specs.declared.message.Message.{Message}
+
+-- a number in so many hexadecimal digits, with zeros in front
+abbrev pub hex_of : ℕ → ℕ → List ℕ
+hex_of width n = padded_integral (format_spec 32 0 4 width (2 ^ 64 - 1)) false [] (digits 16 false n)
+
+-- a message as bytes: its kind, then its numbers, the high byte first
+abbrev pub body_text : Body → List ℕ
+body_text (Given n p) = codes "01" ++ (hex_of 8 n.0 ++ (hex_of 8 p.train.0 ++ (hex_of 4 p.seat.0 ++ (hex_of 2 p.trip.from.0 ++ hex_of 2 p.trip.to.0))))
+body_text (Taken n) = codes "02" ++ hex_of 8 n.0
+
+-- a message as the station that says it prints it
+abbrev pub said_text : Message → List ℕ
+said_text m = decimal m.from.0 ++ (codes " out " ++ (decimal m.to.0 ++ (codes " " ++ body_text m.body)))
+
+-- a message as the station that it comes to prints it
+abbrev pub coming_text : Message → List ℕ
+coming_text m = decimal m.to.0 ++ (codes " < " ++ (decimal m.from.0 ++ (codes " " ++ body_text m.body)))
