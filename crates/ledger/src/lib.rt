@@ -1,4 +1,4 @@
-// What a station decides, by its state alone, and what it does.
+// What a station decides, by its state and the timetable alone, and what it does.
 #![tactic(auto)]
 
 pub mod calls;

@@ -19,7 +19,7 @@ impl Channels {
         ensures { IfOk result (λ c. (chans c ≡ replicate stations fresh) × (c.me ≡ me)) }
     {
         let mut lines = Vec::new(heap);
-        for _k in 0..stations {
+        for _ in 0..stations {
             lines.push(Channel::new(heap)?)?;
         }
         Ok(Channels {
@@ -44,17 +44,17 @@ impl Channels {
     }
 
     // Whether a station is there, and not this one itself.
-    pub fn is_other(&self, k: StationId) -> bool
-        ensures { result ≡ other self.now.me.0 (chans self.now) k.0 }
+    pub fn is_other(&self, who: StationId) -> bool
+        ensures { result ≡ other self.now.me.0 (chans self.now) who.0 }
     {
-        usize::from(k.0) < self.len() && k != self.me
+        usize::from(who.0) < self.len() && who != self.me
     }
 
     // The channel to a station, if it is there.
-    pub fn channel(&self, k: StationId) -> Option<&Channel>
-        ensures { MatchOption result ((length (chans self.now) ≤ k.0) × (line (chans self.now) k.0 ≡ fresh)) (λ c. (k.0 < length (chans self.now)) × (line (chans self.now) k.0 ≡ chan c.now)) }
+    pub fn channel(&self, who: StationId) -> Option<&Channel>
+        ensures { MatchOption result ((length (chans self.now) ≤ who.0) × (line (chans self.now) who.0 ≡ fresh)) (λ c. (who.0 < length (chans self.now)) × (line (chans self.now) who.0 ≡ chan c.now)) }
     {
-        self.lines.get(usize::from(k.0))
+        self.lines.get(usize::from(who.0))
     }
 
     // Whether a piece more may wait.
