@@ -1,13 +1,13 @@
 -- The words once the span is taken out of some seats, and what the search for a seat keeps. Assumes nothing.
-use Rattle.std.proofs.Common.{◌≡◌, ℕ, zero, suc, ◌+◌, ◌<◌, Bool, true, false, cond, not, ◌&&◌, ◌||◌, eqb, ltb, List, [], ◌∷◌, Some, None, Option, MatchOption, IsTrue, sym, refl, ap, ◌∙◌, subst, ⊎_elim, arith}
-use Rattle.std.specs.Option.{IsSomeAnd, option_map}
+use Rattle.std.proofs.Common.{◌≡◌, ℕ, zero, suc, ◌+◌, ◌<◌, Bool, true, false, cond, not, ◌&&◌, ◌||◌, eqb, ltb, List, [], ◌∷◌, Some, None, Option, sym, refl, ap, ◌∙◌, subst, ⊎_elim, arith}
+use Rattle.std.specs.Option.{option_map}
 use Rattle.std.specs.List.{list_any}
 use Rattle.choosing.specs.Choice.{among, chosen, drawn, drawn_all, nearer}
 use Rattle.choosing.proofs.Rule.{seat, chosen_step, uncovered}
 use Rattle.pieces.proofs.Bitwise.{covered_decides, less_uncovered}
 use Rattle.pieces.specs.Stretches.{Covers, covered, less, spare}
 use Rattle.pieces.specs.declared.names.Seat.{Seat}
-use Rattle.std.proofs.lemmas.Bool.{both_ways, cases_Bool, cond_both, cond-true, cond-false, eq-eqb, eqb-false, le-ltb, ne_eqb, or_parts, or_from}
+use Rattle.std.proofs.lemmas.Bool.{both_ways, cases_Bool, cond_both, cond-true, cond-false, eq-eqb, eqb-false, le-ltb, lt-ltb, ne_eqb, or_parts, or_from}
 use Rattle.std.proofs.lemmas.List.Recursion.{same_from_clauses}
 use Rattle.std.proofs.lemmas.Option.{none-some, some_pair_parts}
 
@@ -48,6 +48,10 @@ abbrev is_less : ℕ → Option (Seat × ℕ) → Bool
 is_less m None = true
 is_less m (Some x) = ltb m x.1
 
+-- a seat with what it leaves
+abbrev pub with_least : Option Seat → ℕ → Option (Seat × ℕ)
+with_least r k = option_map (λ s. (s, k)) r
+
 module _ (f : ℕ → ℕ) (ss : List Seat) (a b : ℕ) (ordered : a < b) where
   -- the words that the search goes by
   abbrev g : ℕ → ℕ
@@ -85,15 +89,14 @@ module _ (f : ℕ → ℕ) (ss : List Seat) (a b : ℕ) (ordered : a < b) where
       go None = refl
       go (Some s) = pick (ltb (spare (g n) a b) (spare (g s.0) a b)) (seat n) s
 
-  -- as the search sees it: whether it is less by what `is_none_or` says, and taken by what `contains` says
-  pub takes : (n left : ℕ) (o : Option (Seat × ℕ)) (Q : Seat × ℕ → Type 0) (less : Bool) → o ≡ best n → Covers (f n) a b → left ≡ spare (f n) a b
-      → MatchOption o (IsTrue less) Q → ((x : Seat × ℕ) → Q x → less ≡ ltb left x.1)
-      → best (n + 1) ≡ cond (not (list_any (λ (s : Seat). eqb s.0 n) ss) && less) (Some (seat n, left)) o
-  takes n left o Q less e c l h k = let t = test o h in cc (covered_once n c, any_among n ss)
+  -- as the search sees it: with no seat yet, `least` is more than any leaves
+  pub takes : (n left least : ℕ) (r : Option Seat) → with_least r least ≡ best n → (r ≡ None → least ≡ 30) → left < 30 → Covers (f n) a b → left ≡ spare (f n) a b
+      → best (n + 1) ≡ cond (not (list_any (λ (s : Seat). eqb s.0 n) ss) && ltb left least) (Some (seat n, left)) (with_least r least)
+  takes n left least r e h l c k = let t = test r h in cc (covered_once n c, any_among n ss)
     where
-      test : (o : Option (Seat × ℕ)) → MatchOption o (IsTrue less) Q → less ≡ is_less left o
-      test None h = h
-      test (Some x) h = k x h
+      test : (r : Option Seat) → (r ≡ None → least ≡ 30) → ltb left least ≡ is_less left (with_least r least)
+      test None h = let d = h refl in lt-ltb left least (omega arith)
+      test (Some s) h = refl
 
   -- one that leaves nothing: no higher one goes before it
   pub stops : (d n : ℕ) (s : Seat) → best n ≡ Some (s, 0) → best (d + n) ≡ Some (s, 0)
@@ -110,11 +113,11 @@ module _ (f : ℕ → ℕ) (ss : List Seat) (a b : ℕ) (ordered : a < b) where
           rw (le-ltb (spare (g i) a b) (spare (g t.0) a b) (omega (arith, (some_pair_parts _ _ _ _ h).1)))
 
   -- without what is left, the choice
-  pub bare : (n : ℕ) (o : Option (Seat × ℕ)) (r : Option Seat) (Q : Seat × ℕ → Seat → Type 0) → o ≡ best n
-      → MatchOption o (r ≡ None) (λ x. IsSomeAnd r (Q x)) → ((x : Seat × ℕ) (s : Seat) → Q x s → s ≡ x.0) → r ≡ chosen g n a b
-  bare n o r Q e h k = go (chosen g n a b) r (subst (λ x. MatchOption x (r ≡ None) (λ x. IsSomeAnd r (Q x))) e h)
+  pub bare : (n : ℕ) (r : Option Seat) (k : ℕ) → with_least r k ≡ best n → r ≡ chosen g n a b
+  bare n r k e = go r (chosen g n a b) e
     where
-      go : (c r : Option Seat) → MatchOption (with_left c) (r ≡ None) (λ x. IsSomeAnd r (Q x)) → r ≡ c
-      go None r h = h
-      go (Some s) None h = absurd h
-      go (Some s) (Some t) h = ap (λ x. Some x) (k (s, spare (g s.0) a b) t h)
+      go : (r c : Option Seat) → with_least r k ≡ with_left c → r ≡ c
+      go None None e = refl
+      go None (Some s) e = absurd (none-some _ e)
+      go (Some s) None e = absurd (none-some _ (sym e))
+      go (Some s) (Some t) e = ap (λ x. Some x) (some_pair_parts _ _ _ _ e).0

@@ -1,5 +1,7 @@
 -- The seats of a party, and its pieces.
-use Rattle.std.specs.Prelude.{ℕ, ◌-◌, Bool, true, ◌&&◌, List, [], ◌∷◌, ◌++◌, map, length, min, take, replicate, nat_le, nat_lt}
+use Rattle.std.specs.Prelude.{ℕ, ◌-◌, Bool, true, ◌&&◌, List, [], ◌∷◌, ◌++◌, map, length, min, take, replicate, nat_le, nat_lt, codes}
+use Rattle.std.specs.Fmt.{decimal}
+use Rattle.std.specs.List.{flat_map}
 use Rattle.std.proofs.Math.Nat.{min-le_right}
 use Rattle.choosing.specs.declared.party.Party.{Party}
 use Rattle.pieces.specs.Parts.{piece_of}
@@ -31,3 +33,10 @@ some m = nat_le 1 m && nat_le m 8
 abbrev pub below : ℕ → List Seat → Bool
 below n [] = true
 below n (s ∷ ss) = nat_lt s.0 n && below n ss
+
+-- what a party prints: its train, and then a seat and from where to where for each of its people
+abbrev pub seat_printed : Trip → Seat → List ℕ
+seat_printed t s = codes " " ++ (decimal s.0 ++ (codes ":" ++ (decimal t.from.0 ++ (codes "-" ++ decimal t.to.0))))
+
+abbrev pub printed : Party → List ℕ
+printed p = decimal p.train.0 ++ flat_map (seat_printed p.trip) (seats_of p)

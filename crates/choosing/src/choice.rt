@@ -1,8 +1,10 @@
 // The rule of choice.
-ghost use Rattle.std.specs.Prelude.{◌≡◌, ◌<◌, ◌≤◌, length, slice_index};
+ghost use Rattle.std.specs.Prelude.{◌≡◌, ◌<◌, ◌≤◌, ◌==◌, length, slice_index};
+ghost use Rattle.std.specs.List.{list_any};
 ghost use Rattle.choosing.specs.Choice.{Chosen, chosen, drawn_all, group};
 ghost use Rattle.choosing.specs.Parties.{party_of};
 ghost use Rattle.pieces.specs.Memory.{word_at};
+ghost use Rattle.pieces.specs.declared.names.Seat.{Seat as Chair};
 
 use crate::party::Party;
 use pieces::memory::{Memory, Slot};
@@ -16,20 +18,35 @@ pub fn choose(words: &[u64], trip: Trip, taken: &[Seat]) -> Option<Seat>
     ensures value { result ≡ chosen (drawn_all (λ k. slice_index words.now k) trip.from.0 trip.to.0 taken.now) (length words.now) trip.from.0 trip.to.0 }
     ensures best { Chosen (drawn_all (λ k. slice_index words.now k) trip.from.0 trip.to.0 taken.now) (length words.now) trip.from.0 trip.to.0 result }
 {
-    let mut best: Option<(Seat, u8)> = None;
+    let mut best = None;
+    // More than any seat leaves.
+    let mut least = 30;
     'seats: for (index, word) in words.iter().enumerate() {
         let Some(left) = leftover(*word, trip) else {
             continue 'seats;
         };
         let seat = Seat(index as u16);
-        if best.is_none_or(|(_, least)| left < least) && !taken.contains(&seat) {
-            best = Some((seat, left));
+        if left < least && !is_taken(taken, seat) {
+            best = Some(seat);
+            least = left;
             if left == 0 {
                 break 'seats;
             }
         }
     }
-    best.map(|(seat, _)| seat)
+    best
+}
+
+// Whether a seat is taken already: by a plain loop, since with `contains` the search above is compiled anew for each size of party, and slower.
+fn is_taken(taken: &[Seat], seat: Seat) -> bool
+    ensures value { result ≡ list_any (λ (s : Chair). s.0 == seat.0) taken.now }
+{
+    for other in taken {
+        if *other == seat {
+            return true;
+        }
+    }
+    false
 }
 
 // The seats for so many people, or for as many as there are: for each by the rule, given what those before took.

@@ -8,13 +8,13 @@ use std::fmt;
 
 #[derive(Clone, Copy, Debug, PartialEq, Eq, Drop)]
 pub enum Refusal {
-    // a stop or a seat that the train has not, or more acknowledged than was given
+    // a stop or a seat that the train has not, a stretch that is none, nobody or more than eight; more acknowledged than was given
     Malformed,
     // a number that is not the next
     OutOfTurn,
     // a train that is not open; for an opening, one that is or was
     NotOpen,
-    // nothing held for that trip
+    // fewer seats held for that trip than people
     NothingHeld,
     NoSuchTicket,
     // no place for a train, a number or a piece that waits

@@ -1,117 +1,283 @@
 -- What is decided may be written.
 -- Assumes nothing.
-use Rattle.std.proofs.Common.{◌≡◌, ℕ, ◌+◌, Bool, true, false, [], length, sym, ap, ◌∙◌, cond, not, ◌&&◌, ◌||◌, eqb, leb, Some, None, Option, Less, Equal, Greater, refl, subst, arith, Ok, Err}
-use Rattle.giving.specs.Channels.{Chan, stands, line, roomy, numbered, other, news}
+use Rattle.std.proofs.Common.{◌≡◌, ℕ, suc, ◌+◌, ◌≤◌, min, Bool, true, false, cond, not, ◌&&◌, ◌||◌, eqb, ltb, leb, List, [], ◌∷◌, map, length, set, Some, None, Option, Ok, Err, Less, Equal, Greater, sym, refl, ap, subst, arith, length-append, length-set, get_or-set_same}
+use Rattle.choosing.specs.Parties.{below, party_of, seats_of, some}
+use Rattle.choosing.specs.declared.party.Party.{Party}
+use Rattle.giving.proofs.Mapped.{waiting_set}
+use Rattle.giving.specs.Calls.{unless, givable, next_number, room}
+use Rattle.giving.specs.Channels.{Chan, all_waiting, fresh, gave, stands, line, roomy, numbered, other, news}
+use Rattle.giving.specs.declared.ids.Number.{Number}
+use Rattle.giving.specs.declared.ids.StationId.{StationId}
+use Rattle.giving.specs.declared.ids.Ticket.{Ticket}
 use Rattle.giving.specs.declared.refusal.Refusal.{Refusal}
-use Rattle.giving.specs.Calls.{unless}
-use Rattle.ledger.specs.Decisions.{Answer, judged, turned, decided, decided_open, listing, records, DecidedFits}
+use Rattle.giving.specs.declared.refusal.Refusal.TheVariants.{Full, Malformed, NoSuchStation, NoSuchTicket, NotOpen, NothingHeld, OutOfTurn}
+use Rattle.choosing.proofs.Groups.{group_most, group_below, group_covered}
+use Rattle.choosing.proofs.Parties.{party_seats}
+use Rattle.ledger.specs.Calls.{Numbered}
+use Rattle.ledger.specs.Decisions.{Answer, judging, met, turned, seats_for, selling, offering, decided, decided_open, listing, gifts, entries, records, DecidedFits}
+use Rattle.ledger.specs.declared.input.Demand.{Demand}
 use Rattle.ledger.specs.declared.input.Input.{Input}
 use Rattle.ledger.specs.declared.input.Input.TheVariants.{Close, Sell, Undo, Give, Take, Hear}
-use Rattle.ledger.specs.declared.input.Outcome.TheVariants.{Done, Nothing, Passed}
-use Rattle.pieces.specs.declared.piece.Piece.{Piece}
-use Rattle.state.specs.Changes.{fits, returnable}
-use Rattle.state.specs.States.{State, is_open, known, openable, holds_piece, tickets_left, sold, ticket_of}
+use Rattle.ledger.specs.declared.input.Outcome.{Outcome}
+use Rattle.ledger.specs.declared.input.Outcome.TheVariants.{Done, Gave, Nothing, Passed}
+use Rattle.pieces.specs.Memory.{covered_all, word_at, without}
+use Rattle.pieces.specs.Parts.{piece_of, trip_from}
+use Rattle.pieces.specs.Stretches.{covered}
+use Rattle.pieces.specs.declared.names.Seat.{Seat}
+use Rattle.pieces.specs.declared.names.Train.{Train}
+use Rattle.pieces.specs.declared.trip.Trip.{Trip}
+use Rattle.state.specs.Changes.{all_fit, apply, fits, listed_all, returnable}
+use Rattle.state.specs.States.{State, is_open, known, openable, place, tickets_left, sold, ticket_of}
 use Rattle.state.specs.declared.record.Record.{Record}
 use Rattle.state.specs.declared.record.Record.TheVariants.{Opened, Closed, Sold, Undone, Given, Taken, Heard}
-use Rattle.std.proofs.lemmas.Bool.{and_from, and_parts, eq-eqb}
+use Rattle.std.proofs.lemmas.Bool.{and_from, and_parts, eq-eqb, lt-ltb, ltb-true}
+use Rattle.std.proofs.lemmas.Bool.Decides.{nat_tests}
 use Rattle.timetable.specs.Additions.{admitted}
-use Rattle.timetable.specs.Rows.{Table, listed, within}
+use Rattle.timetable.specs.Rows.{Table, listed}
 use Rattle.timetable.specs.declared.row.Row.{Row}
 
--- ---- the grounds of what is done
+-- ---- what holds of each outcome of a chain of grounds
 
-same_record : (d e : Record) → ◌≡◌ {A = Answer} (Ok (Done d)) (Ok (Done e)) → d ≡ e
-same_record d e h = cc
+module _ (P : Answer → Type 0) (refused : (r : Refusal) → P (Err r)) where
+  unless_by : (b : Bool) (r : Refusal) (o : Answer) → (b ≡ true → P o) → P (unless b r o)
+  unless_by true r o h = h refl
+  unless_by false r o h = refused r
 
-not_done : (o : Answer) (e : Record) → records o ≡ [] → o ≡ Ok (Done e) → ⊥
-not_done o e n h = omega (arith, ap length (sym n ∙ ap records h))
+  met_by : (w : Option Row) (x : Option Trip) (m : ℕ) (b : Bool) (k : Row → Trip → Answer)
+      → ((r : Row) (t : Trip) → w ≡ Some r → some m ≡ true → ltb t.to.0 r.stops ≡ true → b ≡ true → P (k r t)) → P (met (judging w x m b) k)
+  met_by None None m b k h = refused Malformed
+  met_by (Some r) None m b k h = refused Malformed
+  met_by None (Some t) m b k h = go (some m)
+    where
+      go : (y : Bool) → P (met (unless y Malformed (Err NotOpen)) k)
+      go true = refused NotOpen
+      go false = refused Malformed
+  met_by (Some r) (Some t) m b k h = go (some m && ltb t.to.0 r.stops) b refl refl
+    where
+      go : (y z : Bool) → (some m && ltb t.to.0 r.stops) ≡ y → b ≡ z → P (met (unless y Malformed (unless z NotOpen (Ok (r, t)))) k)
+      go true true e d = let (f, g) = and_parts (some m) (ltb t.to.0 r.stops) e in h r t refl f g d
+      go true false e d = refused NotOpen
+      go false z e d = refused Malformed
 
-unless_done : (b : Bool) (r : Refusal) (o : Answer) (e : Record) → unless b r o ≡ Ok (Done e) → (b ≡ true) × (o ≡ Ok (Done e))
-unless_done true r o e h = (refl, h)
-unless_done false r o e h = absurd (not_done (Err r) e refl h)
+  turned_by : (c : Chan) (n : ℕ) (o : Answer) → ((r : Refusal) → P (Ok (Passed r))) → (eqb n (c.taken + 1) ≡ true → P o) → P (turned (stands c n) o)
+  turned_by c n o q h = go (leb n c.taken) (eqb n (c.taken + 1)) refl
+    where
+      go : (a b : Bool) → eqb n (c.taken + 1) ≡ b → P (turned (cond a Less (cond b Equal Greater)) o)
+      go true b f = q OutOfTurn
+      go false true f = h f
+      go false false f = q OutOfTurn
 
-if_done : (b : Bool) (d : Record) (o : Answer) (e : Record) → (o ≡ Ok (Done e) → ⊥) → cond b (Ok (Done d)) o ≡ Ok (Done e) → (b ≡ true) × (d ≡ e)
-if_done true d o e n h = (refl, same_record d e h)
-if_done false d o e n h = absurd (n h)
+  cond_by : (b : Bool) (o q : Answer) → (b ≡ true → P o) → P q → P (cond b o q)
+  cond_by true o q h g = h refl
+  cond_by false o q h g = g
 
-judged_done : (w : Option Row) (p : Piece) (b : Bool) (o : Answer) (e : Record) → judged w p b o ≡ Ok (Done e) → (listed w p ≡ true) × (b ≡ true) × (o ≡ Ok (Done e))
-judged_done None p b o e h = absurd (not_done _ e refl h)
-judged_done (Some r) p b o e h = let (x, g) = unless_done (within r p) _ _ e h in let (y, f) = unless_done b _ o e g in (x, y, f)
+-- ---- a sale
 
-turned_done : (c : Chan) (n : ℕ) (o : Answer) (e : Record) → turned (stands c n) o ≡ Ok (Done e) → (eqb n (c.taken + 1) ≡ true) × (o ≡ Ok (Done e))
-turned_done c n o e h = go (leb n c.taken) (eqb n (c.taken + 1)) refl h
-  where
-    go : (a b : Bool) → eqb n (c.taken + 1) ≡ b → turned (cond a Less (cond b Equal Greater)) o ≡ Ok (Done e) → (eqb n (c.taken + 1) ≡ true) × (o ≡ Ok (Done e))
-    go true b f g = absurd (not_done _ e refl g)
-    go false true f g = (f, g)
-    go false false f g = absurd (not_done _ e refl g)
+enough : (m l : ℕ) → some m ≡ true → leb m l ≡ true → l ≤ m → some l ≡ true
+enough m l h g e = let (a, b) = and_parts (leb 1 m) (leb m 8) h in grind (arith, nat_tests)
+
+few : (m : ℕ) → some m ≡ true → m ≤ 8
+few m h = let (a, b) = and_parts (leb 1 m) (leb m 8) h in grind (arith, nat_tests)
+
+listed_party : (w : Option Row) (r : Row) (p : Party) → w ≡ Some r → ltb p.trip.to.0 r.stops ≡ true → below r.seats (seats_of p) ≡ true → listed_all w p ≡ true
+listed_party w r p e a b = subst (λ o. listed_all o p ≡ true) (sym e) (and_from _ _ a b)
+
+module _ (tb : Table) (s : State) (z : Train) (m : ℕ) (r : Row) (t : Trip) where
+  module _ (w : tb z.0 ≡ Some r) (h : some m ≡ true) (l : ltb t.to.0 r.stops ≡ true) (o : is_open s z ≡ true) where
+    -- the seats for as many people, or fewer
+    module _ (k : ℕ) (u : k ≤ m) where
+      is : seats_of (party_of z t (seats_for s z r t k)) ≡ seats_for s z r t k
+      is =
+          let g = group_most k (word_at s.words (place s z)) r.seats t.from.0 t.to.0 in
+          let f = few m h in
+          party_seats z t (seats_for s z r t k) (omega arith)
+
+      kept : covered_all s.words (place s z) (seats_for s z r t k) t.from.0 t.to.0 ≡ true
+      kept = group_covered s.words (place s z) k r.seats t.from.0 t.to.0 r.few t.ordered
+
+    sale : leb m (length (seats_for s z r t m)) ≡ true → tickets_left s ≡ true → fits tb s (Sold (record { 0 = sold s + 1 }) (party_of z t (seats_for s z r t m))) ≡ true
+    sale g d =
+        let p = party_of z t (seats_for s z r t m) in
+        let e = sym (is m (omega arith)) in
+        and_from _ _ (subst (λ ss. some (length ss) ≡ true) e (enough m (length (seats_for s z r t m)) h g (group_most m (word_at s.words (place s z)) r.seats t.from.0 t.to.0)))
+        (and_from _ _ (listed_party (tb z.0) r p w l (subst (λ ss. below r.seats ss ≡ true) e (group_below m (word_at s.words (place s z)) r.seats t.from.0 t.to.0)))
+        (and_from _ _ o
+        (and_from _ _ (subst (λ ss. covered_all s.words (place s z) ss t.from.0 t.to.0 ≡ true) e (kept m (omega arith)))
+        (and_from _ _ d (eq-eqb (sold s + 1) (sold s + 1) refl)))))
+
+-- ---- pieces given one after the other
+
+listed_one : (w : Option Row) (r : Row) (z : Train) (s : Seat) (t : Trip) → w ≡ Some r → ltb s.0 r.seats ≡ true → ltb t.to.0 r.stops ≡ true → listed w (piece_of z s t) ≡ true
+listed_one w r z s t e a b = subst (λ o. listed o (piece_of z s t) ≡ true) (sym e) (and_from _ _ a b)
+
+module _ (tb : Table) (to : StationId) (z : Train) (t : Trip) (r : Row) (w : tb z.0 ≡ Some r) (l : ltb t.to.0 r.stops ≡ true) where
+  gifts_fit : (ss : List Seat) (x : State) (n : ℕ) → below r.seats ss ≡ true → is_open x z ≡ true → covered_all x.words (place x z) ss t.from.0 t.to.0 ≡ true
+      → all_waiting x.channels + length ss ≤ 4096 → (line x.channels to.0).given + length ss ≤ 4294967295 → other x.me x.channels to.0 ≡ true
+      → n ≡ (line x.channels to.0).given + 1 → all_fit tb x (gifts to n (map (λ (s : Seat). piece_of z s t) ss)) ≡ true
+  gifts_fit [] x n b o c v u a e = refl
+  gifts_fit (s ∷ ss) x n b o c v u a e =
+      let p = piece_of z s t in
+      let k = line x.channels to.0 in
+      let (b0, b1) = and_parts (ltb s.0 r.seats) (below r.seats ss) b in
+      let (c0, c1) = and_parts (ltb s.0 400 && covered (word_at x.words (place x z) s.0) t.from.0 t.to.0) (covered_all (without x.words (place x z) s.0 t.from.0 t.to.0) (place x z) ss t.from.0 t.to.0) c in
+      let (a0, a1) = and_parts (ltb to.0 (length x.channels)) (not (eqb to.0 x.me)) a in
+      let i = ltb-true to.0 (length x.channels) a0 in
+      let q = waiting_set x.channels to.0 (gave k p) i in
+      let y = length-append k.waiting (p ∷ []) in
+      let g : line (set x.channels to.0 (gave k p)) to.0 ≡ gave k p = get_or-set_same x.channels to.0 (gave k p) fresh i in
+      let d : (line (set x.channels to.0 (gave k p)) to.0).given ≡ k.given + 1 = ap (λ (j : Chan). j.given) g in
+      and_from _ _
+      (and_from _ _ (listed_one (tb z.0) r z s t w b0 l)
+      (and_from _ _ o
+      (and_from _ _ c0
+      (and_from _ _ (lt-ltb (all_waiting x.channels) 4096 (omega arith))
+      (and_from _ _ (lt-ltb k.given 4294967295 (omega arith))
+      (and_from _ _ a (eq-eqb n (k.given + 1) e)))))))
+      (gifts_fit ss (apply tb x (Given to (record { 0 = n }) p)) (suc n) b1 o c1
+      (omega arith) (omega arith)
+      (and_from _ _ (subst (λ (j : ℕ). ltb to.0 j ≡ true) (sym (length-set x.channels to.0 (gave k p))) a0) a1)
+      (omega arith))
 
 -- ---- each call
 
 -- the record that a call writes, where it writes one
-abbrev pub record_of : State → Input → Record
-record_of s (Close t) = Closed t
-record_of s (Sell p) = Sold (record { 0 = sold s + 1 }) p
-record_of s (Undo n) = Undone n
-record_of s (Give to p) = Given to (record { 0 = (line s.channels to.0).given + 1 }) p
-record_of s (Take from n p) = Taken from n p
-record_of s (Hear from n) = Heard from n
+abbrev pub Tells : Input → Record → Type 0
+Tells (Close t) e = Closed t ≡ e
+Tells (Sell d) e = (n : Ticket) × (p : Party) × (Sold n p ≡ e)
+Tells (Undo n) e = Undone n ≡ e
+Tells (Give to d) e = ⊥
+Tells (Take from n p) e = Taken from n p ≡ e
+Tells (Hear from n) e = Heard from n ≡ e
 
-module _ (tb : Table) (s : State) (e : Record) where
-  abbrev Writes : Input → Type 0
-  Writes i = (record_of s i ≡ e) × (fits tb s (record_of s i) ≡ true)
+-- what it says that pieces were given
+abbrev pub Gives : State → Input → StationId → Number → Party → Type 0
+Gives s i to n p = (d : Demand) × (i ≡ Give to d) × (n ≡ next_number s.channels to.0) × (other s.me s.channels to.0 ≡ true) × Numbered (Gave to n p)
 
-  writes : (i : Input) → decided tb s i ≡ Ok (Done e) → Writes i
-  writes (Close t) h = let (o, g) = unless_done (is_open s t) _ _ e h in (same_record _ e g, o)
-  writes (Sell p) h =
-      let (l, o, g) = judged_done (tb p.train.0) p (is_open s p.train) _ e h in
-      let (a, f) = unless_done (holds_piece s p) _ _ e g in
-      let (b, d) = unless_done (tickets_left s) _ _ e f in
-      (same_record _ e d, and_from _ _ l (and_from _ _ o (and_from _ _ a (and_from _ _ b (eq-eqb (sold s + 1) (sold s + 1) refl)))))
-  writes (Undo n) h = let (o, g) = unless_done (returnable tb s (ticket_of s n.0)) _ _ e h in (same_record _ e g, o)
-  writes (Give to p) h =
-      let (l, o, g) = judged_done (tb p.train.0) p (is_open s p.train) _ e h in
-      let (a, f) = unless_done (roomy s.channels && numbered (line s.channels to.0)) _ _ e g in
-      let (b, d) = unless_done (other s.me s.channels to.0) _ _ e f in
-      let (k, c) = if_done (holds_piece s p) _ (Ok Nothing) e (not_done _ e refl) d in
-      let (x, y) = and_parts (roomy s.channels) (numbered (line s.channels to.0)) a in
-      (c, and_from _ _ l (and_from _ _ o (and_from _ _ k (and_from _ _ x (and_from _ _ y (and_from _ _ b (eq-eqb ((line s.channels to.0).given + 1) ((line s.channels to.0).given + 1) refl)))))))
-  writes (Take from n p) h =
-      let (l, g) = unless_done (listed (tb p.train.0) p) _ _ e h in
-      let (a, f) = unless_done (other s.me s.channels from.0) _ _ e g in
-      let (b, d) = turned_done (line s.channels from.0) n.0 _ e f in
-      let (k, c) = if_done (known s p.train || openable s) _ (Ok (Passed _)) e (not_done _ e refl) d in
-      (c, and_from _ _ l (and_from _ _ a (and_from _ _ b k)))
-  writes (Hear from n) h =
-      let (a, f) = unless_done (other s.me s.channels from.0) _ _ e h in
-      let (b, d) = unless_done (leb n.0 (line s.channels from.0).given) _ _ e f in
-      let (k, c) = if_done (news (line s.channels from.0) n.0) _ (Ok Nothing) e (not_done _ e refl) d in
-      (c, and_from _ _ a k)
+abbrev Sound : Table → State → Input → Answer → Type 0
+Sound tb s i (Ok (Done e)) = Tells i e × (fits tb s e ≡ true)
+Sound tb s i (Ok (Gave to n p)) = Gives s i to n p × (all_fit tb s (gifts to n.0 (map (λ (x : Seat). piece_of p.train x p.trip) (seats_of p))) ≡ true)
+Sound tb s i (Ok Nothing) = Unit
+Sound tb s i (Ok (Passed r)) = Unit
+Sound tb s i (Err r) = Unit
 
-  pub decided_is : (i : Input) → decided tb s i ≡ Ok (Done e) → record_of s i ≡ e
-  decided_is i h = (writes i h).0
+module _ (tb : Table) (s : State) where
+  offers : (to : StationId) (d : Demand) (r : Row) (t : Trip) → tb d.train.0 ≡ Some r → some d.people ≡ true → ltb t.to.0 r.stops ≡ true → is_open s d.train ≡ true
+      → givable s.channels to.0 ≡ true → other s.me s.channels to.0 ≡ true
+      → Sound tb s (Give to d) (Ok (Gave to (next_number s.channels to.0) (party_of d.train t (seats_for s d.train r t (min d.people (room s.channels to.0))))))
+  offers to d r t w h l o g a =
+      let z = d.train in
+      let k = min d.people (room s.channels to.0) in
+      let ss = seats_for s z r t k in
+      let e : seats_of (party_of z t ss) ≡ ss = is tb s z d.people r t w h l o k (omega arith) in
+      let q = group_most k (word_at s.words (place s z)) r.seats t.from.0 t.to.0 in
+      let (g0, g1) = and_parts (roomy s.channels) (numbered (line s.channels to.0)) g in
+      let x = ltb-true (all_waiting s.channels) 4096 g0 in
+      let y = ltb-true (line s.channels to.0).given 4294967295 g1 in
+      let c = ap (λ (xs : List Seat). length xs) e in (
+        (d, refl, refl, a, omega arith),
+        subst (λ (xs : List Seat). all_fit tb s (gifts to ((line s.channels to.0).given + 1) (map (λ (v : Seat). piece_of z v t) xs)) ≡ true) (sym e)
+            (gifts_fit tb to z t r w l ss s ((line s.channels to.0).given + 1) (group_below k (word_at s.words (place s z)) r.seats t.from.0 t.to.0) o
+            (kept tb s z d.people r t w h l o k (omega arith)) (omega arith) (omega arith) a refl),
+      )
 
-  pub decided_fits : (i : Input) → decided tb s i ≡ Ok (Done e) → fits tb s e ≡ true
-  decided_fits i h = let (a, b) = writes i h in subst (λ x. fits tb s x ≡ true) a b
+  sound : (i : Input) → Sound tb s i (decided tb s i)
+  sound (Close t) = unless_by (Sound tb s (Close t)) (λ _. tt) (is_open s t) NotOpen (Ok (Done (Closed t))) (λ o. (refl, o))
+  sound (Sell d) =
+      let P = Sound tb s (Sell d) in
+      met_by P (λ _. tt) (tb d.train.0) (trip_from d.from d.to) d.people (is_open s d.train) (selling s d) (λ r t w h l o.
+      unless_by P (λ _. tt) (leb d.people (length (seats_for s d.train r t d.people))) NothingHeld _ (λ g.
+      unless_by P (λ _. tt) (tickets_left s) Full _ (λ x.
+      ((_, _, refl), sale tb s d.train d.people r t w h l o g x))))
+  sound (Undo n) = unless_by (Sound tb s (Undo n)) (λ _. tt) (returnable tb s (ticket_of s n.0)) NoSuchTicket (Ok (Done (Undone n))) (λ o. (refl, o))
+  sound (Give to d) =
+      let P = Sound tb s (Give to d) in
+      met_by P (λ _. tt) (tb d.train.0) (trip_from d.from d.to) d.people (is_open s d.train) (offering s to d) (λ r t w h l o.
+      unless_by P (λ _. tt) (givable s.channels to.0) Full _ (λ g.
+      unless_by P (λ _. tt) (other s.me s.channels to.0) NoSuchStation _ (λ a.
+      offers to d r t w h l o g a)))
+  sound (Take from n p) =
+      let P = Sound tb s (Take from n p) in
+      unless_by P (λ _. tt) (listed (tb p.train.0) p) Malformed _ (λ l.
+      unless_by P (λ _. tt) (other s.me s.channels from.0) NoSuchStation _ (λ a.
+      turned_by P (λ _. tt) (line s.channels from.0) n.0 _ (λ _. tt) (λ b.
+      cond_by P (λ _. tt) (known s p.train || openable s) (Ok (Done (Taken from n p))) (Ok (Passed Full)) (λ k. (refl, and_from _ _ l (and_from _ _ a (and_from _ _ b k)))) tt)))
+  sound (Hear from n) =
+      let P = Sound tb s (Hear from n) in
+      unless_by P (λ _. tt) (other s.me s.channels from.0) NoSuchStation _ (λ a.
+      unless_by P (λ _. tt) (leb n.0 (line s.channels from.0).given) Malformed _ (λ b.
+      cond_by P (λ _. tt) (news (line s.channels from.0) n.0) (Ok (Done (Heard from n))) (Ok Nothing) (λ k. (refl, and_from _ _ a k)) tt))
 
--- the grounds of an opening, and its record
-opening : (tb : Table) (s : State) (r : Row) (e : Record) → decided_open tb s r ≡ Ok (Done e) → (admitted (tb r.train.0) r ≡ true) × (not (known s r.train) ≡ true) × (openable s ≡ true) × (Opened r.train ≡ e)
-opening tb s r e h =
-    let (a, g) = unless_done (admitted (tb r.train.0) r) _ _ e h in
-    let (b, f) = unless_done (not (known s r.train)) _ _ e g in
-    let (c, d) = unless_done (openable s) _ _ e f in
-    (a, b, c, same_record _ e d)
+  sound_fits : (i : Input) (o : Answer) → Sound tb s i o → all_fit tb s (records o) ≡ true
+  sound_fits i (Ok (Done e)) h = and_from _ _ h.1 refl
+  sound_fits i (Ok (Gave to n p)) h = h.1
+  sound_fits i (Ok Nothing) h = refl
+  sound_fits i (Ok (Passed r)) h = refl
+  sound_fits i (Err r) h = refl
+
+  pub decided_fits : (i : Input) → all_fit tb s (records (decided tb s i)) ≡ true
+  decided_fits i = sound_fits i (decided tb s i) (sound i)
+
+  pub told_is : (i : Input) (e : Record) → decided tb s i ≡ Ok (Done e) → Tells i e
+  told_is i e h = (subst (Sound tb s i) h (sound i)).0
+
+  pub gave_is : (i : Input) (to : StationId) (n : Number) (p : Party) → decided tb s i ≡ Ok (Gave to n p) → Gives s i to n p
+  gave_is i to n p h = (subst (Sound tb s i) h (sound i)).0
+
+  -- what a call came to that was not refused
+  module _ (i : Input) (o : Outcome) (h : decided tb s i ≡ Ok o) where
+    pub outcome_fits : all_fit tb s (entries o) ≡ true
+    outcome_fits = subst (λ q. all_fit tb s (records q) ≡ true) h (decided_fits i)
+
+    -- there is a number for each piece that is given
+    pub outcome_numbered : Numbered o
+    outcome_numbered = go o (subst (Sound tb s i) h (sound i))
+      where
+        go : (q : Outcome) → Sound tb s i (Ok q) → Numbered q
+        go (Done e) g = tt
+        go (Gave to n p) g = g.0.4
+        go Nothing g = tt
+        go (Passed r) g = tt
+
+-- ---- opening
+
+abbrev Opens : Table → State → Row → Answer → Type 0
+Opens tb s r (Ok (Done e)) = (Opened r.train ≡ e) × (admitted (tb r.train.0) r ≡ true) × (not (known s r.train) ≡ true) × (openable s ≡ true)
+Opens tb s r (Ok (Gave to n p)) = ⊥
+Opens tb s r (Ok Nothing) = ⊥
+Opens tb s r (Ok (Passed q)) = ⊥
+Opens tb s r (Err q) = Unit
+
+opens : (tb : Table) (s : State) (r : Row) → Opens tb s r (decided_open tb s r)
+opens tb s r =
+    unless_by (Opens tb s r) (λ _. tt) (admitted (tb r.train.0) r) Malformed _ (λ a.
+    unless_by (Opens tb s r) (λ _. tt) (not (known s r.train)) NotOpen _ (λ b.
+    unless_by (Opens tb s r) (λ _. tt) (openable s) Full (Ok (Done (Opened r.train))) (λ c. (refl, a, b, c))))
 
 pub opens_is : (tb : Table) (s : State) (r : Row) (e : Record) → decided_open tb s r ≡ Ok (Done e) → Opened r.train ≡ e
-opens_is tb s r e h = let (_, _, _, i) = opening tb s r e h in i
+opens_is tb s r e h = (subst (Opens tb s r) h (opens tb s r)).0
+
+-- nothing is given by it
+pub opens_gives : (tb : Table) (s : State) (r : Row) (to : StationId) (n : Number) (p : Party) → decided_open tb s r ≡ Ok (Gave to n p) → ⊥
+opens_gives tb s r to n p h = subst (Opens tb s r) h (opens tb s r)
 
 pub opens_admitted : (tb : Table) (s : State) (r : Row) (e : Record) → decided_open tb s r ≡ Ok (Done e) → admitted (tb r.train.0) r ≡ true
-opens_admitted tb s r e h = (opening tb s r e h).0
+opens_admitted tb s r e h = (subst (Opens tb s r) h (opens tb s r)).1
 
-pub opens_fits : (tb : Table) (s : State) (r : Row) (e : Record) → decided_open tb s r ≡ Ok (Done e) → fits (listing tb r (Ok (Done e))) s e ≡ true
-opens_fits tb s r e h =
-    let (a, b, c, i) = opening tb s r e h in
-    subst (λ x. fits (listing tb r (Ok (Done e))) s x ≡ true) i (and_from _ _ (rw (eq-eqb r.train.0 r.train.0 refl) refl) (and_from _ _ b c))
+-- the record of an opening fits
+pub opens_one : (tb : Table) (s : State) (r : Row) (e : Record) → decided_open tb s r ≡ Ok (Done e) → fits (listing tb r (Ok (Done e))) s e ≡ true
+opens_one tb s r e h =
+    let (a, _, b, c) = subst (Opens tb s r) h (opens tb s r) in
+    subst (λ x. fits (listing tb r (Ok (Done e))) s x ≡ true) a (and_from _ _ (rw (eq-eqb r.train.0 r.train.0 refl) refl) (and_from _ _ b c))
 
-pub all_fit : DecidedFits
-all_fit = (λ tb s i e h. decided_fits tb s e i h, opens_fits)
+pub opens_fits : (tb : Table) (s : State) (r : Row) → all_fit (listing tb r (decided_open tb s r)) s (records (decided_open tb s r)) ≡ true
+opens_fits tb s r = go (decided_open tb s r) refl
+  where
+    go : (o : Answer) → decided_open tb s r ≡ o → all_fit (listing tb r o) s (records o) ≡ true
+    go (Ok (Done e)) h = and_from _ _ (opens_one tb s r e h) refl
+    go (Ok (Gave to n p)) h = absurd (subst (Opens tb s r) h (opens tb s r))
+    go (Ok Nothing) h = refl
+    go (Ok (Passed q)) h = refl
+    go (Err q) h = refl
+
+pub decisions_fit : DecidedFits
+decisions_fit = (decided_fits, opens_fits)

@@ -1,1 +1,4 @@
+pub mod Gifts
+pub mod Memory
 pub mod Decided
+pub mod Undone

@@ -1,35 +1,76 @@
 -- What each call decides, and what a station says of it.
-use Rattle.std.specs.Prelude.{◌≡◌, ◌+◌, Bool, true, false, cond, not, ◌&&◌, ◌||◌, List, [], ◌∷◌, Some, None, Option, nat_le, Ok, Err, Result}
+use Rattle.std.specs.Prelude.{◌≡◌, ℕ, suc, ◌+◌, min, Bool, true, false, cond, not, ◌&&◌, ◌||◌, List, [], ◌∷◌, length, is_some, Some, None, fold, Option, Ok, Err, Result, ◌==◌, nat_le, nat_lt}
 use Rattle.std.specs.declared.cmp.Ordering.TheVariants.{Less, Equal, Greater}
 use Rattle.std.specs.declared.cmp.Ordering.{Ordering}
-use Rattle.giving.specs.Calls.{unless}
-use Rattle.giving.specs.Channels.{line, stands, news, numbered, roomy, other}
+use Rattle.choosing.specs.Choice.{group}
+use Rattle.choosing.specs.Parties.{party_of, pieces_of, some}
+use Rattle.giving.specs.Calls.{unless, givable, next_number, room}
+use Rattle.giving.specs.Channels.{line, stands, news, other}
+use Rattle.giving.specs.Refusals.{number}
 use Rattle.giving.specs.declared.ids.StationId.{StationId}
 use Rattle.giving.specs.declared.message.Body.TheVariants as body
 use Rattle.giving.specs.declared.message.Message.{Message}
 use Rattle.giving.specs.declared.refusal.Refusal.{Refusal}
-use Rattle.giving.specs.declared.refusal.Refusal.TheVariants.{Malformed, OutOfTurn, NotOpen, NothingHeld, NoSuchTicket, Full, NoSuchStation, Memory}
-use Rattle.state.specs.Changes.{apply, fits, returnable}
-use Rattle.state.specs.States.{State, is_open, known, openable, holds_piece, sold, tickets_left, ticket_of}
+use Rattle.giving.specs.declared.refusal.Refusal.TheVariants.{Malformed, OutOfTurn, NotOpen, NothingHeld, NoSuchTicket, Full, NoSuchStation}
+use Rattle.state.specs.Changes.{all_fit, apply, returnable}
+use Rattle.state.specs.States.{State, place, is_open, known, openable, sold, tickets_left, ticket_of}
+use Rattle.ledger.specs.declared.input.Demand.{Demand}
 use Rattle.ledger.specs.declared.input.Input.{Input}
 use Rattle.ledger.specs.declared.input.Input.TheVariants.{Close, Sell, Undo, Give, Take, Hear}
 use Rattle.ledger.specs.declared.input.Outcome.{Outcome}
-use Rattle.ledger.specs.declared.input.Outcome.TheVariants.{Done, Nothing, Passed}
+use Rattle.ledger.specs.declared.input.Outcome.TheVariants.{Done, Gave, Nothing, Passed}
 use Rattle.state.specs.declared.record.Record.{Record}
 use Rattle.state.specs.declared.record.Record.TheVariants.{Opened, Closed, Sold, Undone, Given, Taken, Heard}
+use Rattle.pieces.specs.Memory.{word_at}
+use Rattle.pieces.specs.Parts.{trip_from}
+use Rattle.pieces.specs.declared.names.Seat.{Seat}
+use Rattle.pieces.specs.declared.names.Train.{Train}
 use Rattle.pieces.specs.declared.piece.Piece.{Piece}
+use Rattle.pieces.specs.declared.trip.Trip.{Trip}
 use Rattle.timetable.specs.Additions.{admitted, put}
-use Rattle.timetable.specs.Rows.{Table, listed, within}
+use Rattle.timetable.specs.Rows.{Table, listed}
 use Rattle.timetable.specs.declared.row.Row.{Row}
 
 -- what a call came to, or why it was refused
 abbrev pub Answer : Type 0
 Answer = Result Outcome Refusal
 
--- a call on a piece, by the grounds in the order of their numbers: one that the train has not is refused by 1, a train that is not open by 3
-abbrev pub judged : Option Row → Piece → (there : Bool) → Answer → Answer
-judged None p there o = Err NotOpen
-judged (Some r) p there o = unless (within r p) Malformed (unless there NotOpen o)
+-- ---- demands
+
+-- a demand is judged by the row of its train, its trip and how many people want it, by the grounds in the order of their numbers: a trip that
+-- is none, a stop that the train has not, nobody and more than eight are refused by 1, a train that is not open by 3
+abbrev pub judging : Option Row → Option Trip → (people : ℕ) → (there : Bool) → Result (Row × Trip) Refusal
+judging w None m there = Err Malformed
+judging None (Some t) m there = unless (some m) Malformed (Err NotOpen)
+judging (Some r) (Some t) m there = unless (some m && nat_lt t.to.0 r.stops) Malformed (unless there NotOpen (Ok (r, t)))
+
+abbrev pub judged : Table → State → Demand → Result (Row × Trip) Refusal
+judged tb s d = judging (tb d.train.0) (trip_from d.from d.to) d.people (is_open s d.train)
+
+-- what follows of a demand that may be met
+abbrev pub met : Result (Row × Trip) Refusal → (Row → Trip → Answer) → Answer
+met (Ok j) k = k j.0 j.1
+met (Err e) k = Err e
+
+-- the seats for m people, or as many as there are, by the rule of choice
+abbrev pub seats_for : State → Train → Row → Trip → ℕ → List Seat
+seats_for s z r t m = group m (word_at s.words (place s z)) r.seats t.from.0 t.to.0
+
+-- all are sold a seat, under the next ticket, or none
+abbrev pub selling : State → Demand → Row → Trip → Answer
+selling s d r t =
+    unless (nat_le d.people (length (seats_for s d.train r t d.people))) NothingHeld
+    (unless (tickets_left s) Full
+    (Ok (Done (Sold (record { 0 = sold s + 1 }) (party_of d.train t (seats_for s d.train r t d.people))))))
+
+-- as many are given as can be taken, and as may wait
+abbrev pub offering : State → StationId → Demand → Row → Trip → Answer
+offering s to d r t =
+    unless (givable s.channels to.0) Full
+    (unless (other s.me s.channels to.0) NoSuchStation
+    (Ok (Gave to (next_number s.channels to.0) (party_of d.train t (seats_for s d.train r t (min d.people (room s.channels to.0)))))))
+
+-- ---- calls
 
 -- the next number is taken, every other is passed over
 abbrev pub turned : Ordering → Answer → Answer
@@ -39,17 +80,9 @@ turned Greater o = Ok (Passed OutOfTurn)
 
 abbrev pub decided : Table → State → Input → Answer
 decided tb s (Close t) = unless (is_open s t) NotOpen (Ok (Done (Closed t)))
-decided tb s (Sell p) =
-    judged (tb p.train.0) p (is_open s p.train)
-    (unless (holds_piece s p) NothingHeld
-    (unless (tickets_left s) Full
-    (Ok (Done (Sold (record { 0 = sold s + 1 }) p)))))
+decided tb s (Sell d) = met (judged tb s d) (selling s d)
 decided tb s (Undo n) = unless (returnable tb s (ticket_of s n.0)) NoSuchTicket (Ok (Done (Undone n)))
-decided tb s (Give to p) =
-    judged (tb p.train.0) p (is_open s p.train)
-    (unless (roomy s.channels && numbered (line s.channels to.0)) Full
-    (unless (other s.me s.channels to.0) NoSuchStation
-    (cond (holds_piece s p) (Ok (Done (Given to (record { 0 = (line s.channels to.0).given + 1 }) p))) (Ok Nothing))))
+decided tb s (Give to d) = met (judged tb s d) (offering s to d)
 decided tb s (Take from n p) =
     unless (listed (tb p.train.0) p) Malformed
     (unless (other s.me s.channels from.0) NoSuchStation
@@ -71,82 +104,80 @@ decided_open tb s r =
 -- the timetable after an opening: it has the row, if the train was opened
 abbrev pub listing : Table → Row → Answer → Table
 listing tb r (Ok (Done e)) = put tb r
+listing tb r (Ok (Gave to n p)) = tb
 listing tb r (Ok Nothing) = tb
 listing tb r (Ok (Passed q)) = tb
 listing tb r (Err q) = tb
 
--- what is decided may be written
-abbrev pub DecidedFits : Type 0
-DecidedFits = ((tb : Table) (s : State) (i : Input) (e : Record) → decided tb s i ≡ Ok (Done e) → fits tb s e ≡ true)
-    × ((tb : Table) (s : State) (r : Row) (e : Record) → decided_open tb s r ≡ Ok (Done e) → fits (listing tb r (Ok (Done e))) s e ≡ true)
-
 -- ---- what a call came to
 
-abbrev pub after : Table → State → Answer → State
-after tb s (Ok (Done e)) = apply tb s e
-after tb s (Ok Nothing) = s
-after tb s (Ok (Passed r)) = s
-after tb s (Err r) = s
+-- pieces given to a station, under the numbers from n on
+abbrev pub gifts : StationId → (n : ℕ) → List Piece → List Record
+gifts to n [] = []
+gifts to n (p ∷ ps) = Given to (record { 0 = n }) p ∷ gifts to (suc n) ps
+
+-- the records of an outcome
+abbrev pub entries : Outcome → List Record
+entries (Done e) = e ∷ []
+entries (Gave to n p) = gifts to n.0 (pieces_of p)
+entries Nothing = []
+entries (Passed r) = []
 
 abbrev pub records : Answer → List Record
-records (Ok (Done e)) = e ∷ []
-records (Ok Nothing) = []
-records (Ok (Passed r)) = []
+records (Ok o) = entries o
 records (Err r) = []
 
-abbrev pub is_memory : Refusal → Bool
-is_memory Malformed = false
-is_memory OutOfTurn = false
-is_memory NotOpen = false
-is_memory NothingHeld = false
-is_memory NoSuchTicket = false
-is_memory Full = false
-is_memory NoSuchStation = false
-is_memory Memory = true
+-- the changes of the records, one after the other
+abbrev pub after : Table → State → Answer → State
+after tb s o = fold (apply tb) s (records o)
 
+-- what is decided may be written
+abbrev pub DecidedFits : Type 0
+DecidedFits = ((tb : Table) (s : State) (i : Input) → all_fit tb s (records (decided tb s i)) ≡ true)
+    × ((tb : Table) (s : State) (r : Row) → all_fit (listing tb r (decided_open tb s r)) s (records (decided_open tb s r)) ≡ true)
+
+-- want of memory alone has no number
 abbrev pub for_memory : Answer → Bool
-for_memory (Ok (Done e)) = false
-for_memory (Ok Nothing) = false
-for_memory (Ok (Passed r)) = false
-for_memory (Err r) = is_memory r
+for_memory (Ok o) = false
+for_memory (Err r) = not (is_some (number r))
 
 -- ---- what is said of it, by the state afterwards
 
--- a piece that is given, under the last number that was used
-abbrev pub notice : State → StationId → Piece → Message
-notice s to p = record { from = record { 0 = s.me }; to = to; body = body.Given (record { 0 = (line s.channels to.0).given }) p }
+-- each piece that was given, under its number
+abbrev pub notices : (me : ℕ) → StationId → (n : ℕ) → List Piece → List Message
+notices me to n [] = []
+notices me to n (p ∷ ps) = record { from = record { 0 = me }; to = to; body = body.Given (record { 0 = n }) p } ∷ notices me to (suc n) ps
+
+abbrev pub offers : (me : ℕ) → Outcome → List Message
+offers me (Done e) = []
+offers me (Gave to n p) = notices me to n.0 (pieces_of p)
+offers me Nothing = []
+offers me (Passed r) = []
 
 -- up to where a station's pieces are taken
 abbrev pub receipt : State → StationId → Message
 receipt s from = record { from = record { 0 = s.me }; to = from; body = body.Taken (record { 0 = (line s.channels from.0).taken }) }
 
-abbrev pub is_done : Answer → Bool
-is_done (Ok (Done e)) = true
-is_done (Ok Nothing) = false
-is_done (Ok (Passed r)) = false
-is_done (Err r) = false
+abbrev pub numbered_by : ℕ → Option ℕ → Bool
+numbered_by k None = false
+numbered_by k (Some n) = n == k
 
-abbrev pub is_turn : Refusal → Bool
-is_turn Malformed = false
-is_turn OutOfTurn = true
-is_turn NotOpen = false
-is_turn NothingHeld = false
-is_turn NoSuchTicket = false
-is_turn Full = false
-is_turn NoSuchStation = false
-is_turn Memory = false
+-- what was taken is answered, and so is a number that is not the next, which is passed over by 2
+abbrev pub answered : Outcome → Bool
+answered (Done e) = true
+answered (Gave to n p) = false
+answered Nothing = false
+answered (Passed r) = numbered_by 2 (number r)
 
--- what was taken is answered, and so is a number that is not the next
-abbrev pub answered : Answer → Bool
-answered (Ok (Done e)) = true
-answered (Ok Nothing) = false
-answered (Ok (Passed r)) = is_turn r
-answered (Err r) = false
+-- the messages of an outcome
+abbrev pub replies : State → Input → Outcome → List Message
+replies s (Close t) o = []
+replies s (Sell d) o = []
+replies s (Undo n) o = []
+replies s (Give to d) o = offers s.me o
+replies s (Take from n p) o = cond (answered o) (receipt s from ∷ []) []
+replies s (Hear from n) o = []
 
 abbrev pub messages : State → Input → Answer → List Message
-messages s (Close t) o = []
-messages s (Sell p) o = []
-messages s (Undo n) o = []
-messages s (Give to p) o = cond (is_done o) (notice s to p ∷ []) []
-messages s (Take from n p) o = cond (answered o) (receipt s from ∷ []) []
-messages s (Hear from n) o = []
+messages s i (Ok o) = replies s i o
+messages s i (Err r) = []

@@ -1,34 +1,42 @@
 // What each call comes to, by the state and the timetable alone. Nothing is changed here.
-ghost use Rattle.std.specs.Prelude.{◌≡◌, Err, MatchResult};
-ghost use Rattle.ledger.specs.Decisions.{Answer, decided, decided_open, judged};
+ghost use Rattle.std.specs.Prelude.{◌≡◌, ◌≤◌, true, IfOk};
+ghost use Rattle.ledger.specs.Decisions.{decided, decided_open, judged};
 ghost use Rattle.ledger.specs.declared.input.Input.TheVariants.{Close, Sell, Undo, Give, Take, Hear};
+ghost use Rattle.state.specs.Changes.{listed_all};
 ghost use Rattle.state.specs.States.{is_open};
 ghost use Rattle.state.specs.Views.{view};
 ghost use Rattle.timetable.specs.Tables.{table as rows_of};
 
-use crate::input::{Input, Outcome};
+use crate::input::{Demand, Input, Outcome};
+use choosing::party::{MOST, Party};
 use giving::ids::{Number, StationId, Ticket};
 use giving::refusal::Refusal;
 use pieces::names::Train;
 use pieces::piece::Piece;
+use pieces::trip::Trip;
 use state::record::Record;
 use state::station::Station;
 use std::cmp::Ordering;
 use timetable::row::Row;
 use timetable::timetable::Timetable;
 
-// Whether a call on a piece may be judged further: the train has the piece, and is open here.
-fn judge(station: &Station, table: &Timetable, piece: Piece) -> Result<(), Refusal>
-    ensures { (a : Answer) → MatchResult result (λ _. judged (rows_of table.now piece.train.0) piece (is_open (view station.now) piece.train) a ≡ a) (λ e. judged (rows_of table.now piece.train.0) piece (is_open (view station.now) piece.train) a ≡ Err e) }
+// The row and the trip that a demand is for, on a train that is open; or why there is none.
+fn judge(station: &Station, table: &Timetable, demand: Demand) -> Result<(Row, Trip), Refusal>
+    ensures value { result ≡ judged (rows_of table.now) (view station.now) demand }
+    ensures fit { IfOk result (λ _. (is_open (view station.now) demand.train ≡ true) × (demand.people ≤ 8)) }
 {
-    let row = table.row(piece.train).ok_or(Refusal::NotOpen)?;
-    if !row.has(piece) {
+    let trip = Trip::new(demand.from, demand.to).ok_or(Refusal::Malformed)?;
+    if demand.people < 1 || usize::from(demand.people) > MOST {
         return Err(Refusal::Malformed);
     }
-    if !station.is_open(piece.train) {
+    let row = table.row(demand.train).ok_or(Refusal::NotOpen)?;
+    if trip.to.0 >= row.stops {
+        return Err(Refusal::Malformed);
+    }
+    if !station.is_open(demand.train) {
         return Err(Refusal::NotOpen);
     }
-    Ok(())
+    Ok((row, trip))
 }
 
 fn decide_close(station: &Station, table: &Timetable, train: Train) -> Result<Outcome, Refusal>
@@ -40,42 +48,52 @@ fn decide_close(station: &Station, table: &Timetable, train: Train) -> Result<Ou
     Ok(Outcome::Done(Record::Closed(train)))
 }
 
-// A piece is sold under the next ticket.
-fn decide_sell(station: &Station, table: &Timetable, piece: Piece) -> Result<Outcome, Refusal>
-    ensures { result ≡ decided (rows_of table.now) (view station.now) (Sell piece) }
+// A trip is sold under the next ticket, a seat for each of the people, or none.
+fn decide_sell(station: &Station, table: &Timetable, demand: Demand) -> Result<Outcome, Refusal>
+    ensures { result ≡ decided (rows_of table.now) (view station.now) (Sell demand) }
 {
-    judge(station, table, piece)?;
-    if !station.holds_piece(piece) {
+    let (row, trip) = judge(station, table, demand)?;
+    let party = station.choose(demand.train, row.seats, trip, demand.people);
+    if party.len() < usize::from(demand.people) {
         return Err(Refusal::NothingHeld);
     }
     if !station.tickets_left() {
         return Err(Refusal::Full);
     }
     let ticket = Ticket(station.sold_count() + 1);
-    Ok(Outcome::Done(Record::Sold(ticket, piece)))
+    Ok(Outcome::Done(Record::Sold(ticket, party)))
+}
+
+// Whether the train of a party is in the timetable, and has its seats and stops.
+fn is_listed(table: &Timetable, party: Party) -> bool
+    ensures { result ≡ listed_all (rows_of table.now party.train.0) party }
+{
+    table
+        .row(party.train)
+        .is_some_and(|row| party.is_within(row.seats, row.stops))
 }
 
 // A ticket is undone while it stands and its train is open.
 fn decide_undo(station: &Station, table: &Timetable, ticket: Ticket) -> Result<Outcome, Refusal>
     ensures { result ≡ decided (rows_of table.now) (view station.now) (Undo ticket) }
 {
-    let piece = station.ticket(ticket).ok_or(Refusal::NoSuchTicket)?;
-    if !table.is_listed(piece) || !station.is_open(piece.train) {
+    let party = station.ticket(ticket).ok_or(Refusal::NoSuchTicket)?;
+    if !is_listed(table, party) || !station.is_open(party.train) {
         return Err(Refusal::NoSuchTicket);
     }
     Ok(Outcome::Done(Record::Undone(ticket)))
 }
 
-// A piece that is held is given under the channel's next number.
+// As many seats are given as can be taken, and as may wait, under the channel's next numbers.
 fn decide_give(
     station: &Station,
     table: &Timetable,
     to: StationId,
-    piece: Piece,
+    demand: Demand,
 ) -> Result<Outcome, Refusal>
-    ensures { result ≡ decided (rows_of table.now) (view station.now) (Give to piece) }
+    ensures { result ≡ decided (rows_of table.now) (view station.now) (Give to demand) }
 {
-    judge(station, table, piece)?;
+    let (row, trip) = judge(station, table, demand)?;
     let channels = station.channels();
     if !channels.is_roomy() || !channels.is_numbered(to) {
         return Err(Refusal::Full);
@@ -83,11 +101,9 @@ fn decide_give(
     if !channels.is_other(to) {
         return Err(Refusal::NoSuchStation);
     }
-    if !station.holds_piece(piece) {
-        return Ok(Outcome::Nothing);
-    }
-    let number = channels.next_number(to);
-    Ok(Outcome::Done(Record::Given(to, number, piece)))
+    let count = u32::from(demand.people).min(channels.room(to)) as u8;
+    let party = station.choose(demand.train, row.seats, trip, count);
+    Ok(Outcome::Gave(to, channels.next_number(to), party))
 }
 
 // A piece is taken if it has the other station's next number.
@@ -143,9 +159,9 @@ pub fn decide(station: &Station, table: &Timetable, input: Input) -> Result<Outc
 {
     match input {
         Input::Close(train) => decide_close(station, table, train),
-        Input::Sell(piece) => decide_sell(station, table, piece),
+        Input::Sell(demand) => decide_sell(station, table, demand),
         Input::Undo(ticket) => decide_undo(station, table, ticket),
-        Input::Give(to, piece) => decide_give(station, table, to, piece),
+        Input::Give(to, demand) => decide_give(station, table, to, demand),
         Input::Take(from, number, piece) => decide_take(station, table, from, number, piece),
         Input::Hear(from, number) => decide_hear(station, table, from, number),
     }

@@ -2,20 +2,30 @@
 ghost use Rattle.std.specs.Prelude.{◌≡◌};
 ghost use Rattle.ledger.specs.Calls.{input_of};
 
+use choosing::party::Party;
 use giving::ids::{Number, StationId, Ticket};
 use giving::message::{Body, Message};
 use giving::refusal::Refusal;
-use pieces::names::Train;
+use pieces::names::{Stop, Train};
 use pieces::piece::Piece;
 use state::record::Record;
+
+// A trip that so many people want, in bare numbers: it may be none.
+#[derive(Clone, Copy, Drop)]
+pub struct Demand {
+    pub train: Train,
+    pub from: Stop,
+    pub to: Stop,
+    pub people: u8,
+}
 
 // What a station is asked at its counter, or told by another.
 #[derive(Clone, Copy, Drop)]
 pub enum Input {
     Close(Train),
-    Sell(Piece),
+    Sell(Demand),
     Undo(Ticket),
-    Give(StationId, Piece),
+    Give(StationId, Demand),
     Take(StationId, Number, Piece),
     Hear(StationId, Number),
 }
@@ -36,8 +46,10 @@ impl From<Message> for Input {
 #[derive(Clone, Copy, Drop)]
 pub enum Outcome {
     Done(Record),
-    // there was nothing to do: heard before, or nothing held that could be given
+    // the pieces of a party were given to a station, under the numbers from this one on; there may be none
+    Gave(StationId, Number, Party),
+    // there was nothing to do: it was heard before
     Nothing,
-    // passed over, for this refusal
+    // passed over, by the number of the refusal
     Passed(Refusal),
 }

@@ -1,13 +1,15 @@
 -- A timetable with more trains.
 -- Assumes nothing.
-use Rattle.std.proofs.Common.{◌≡◌, ℕ, Bool, true, ◌&&◌, List, [], is_some, Some, None, fold, Option, sym, refl, ap, ◌∙◌, arith}
+use Rattle.std.proofs.Common.{◌≡◌, ℕ, Bool, true, ◌&&◌, List, [], length, is_some, Some, None, fold, Option, sym, refl, ap, ◌∙◌, arith}
+use Rattle.choosing.specs.Parties.{seats_of, some as some_people}
+use Rattle.choosing.specs.declared.party.Party.{Party}
 use Rattle.network.proofs.Linked.{Intact, ok_reach, wrote_ind}
 use Rattle.network.proofs.Lists.{slice_index_same}
-use Rattle.network.proofs.Local.{listed_row, fits_opened, fits_taken}
+use Rattle.network.proofs.Local.{listed_row, listed_party, fits_opened, fits_taken}
 use Rattle.network.specs.Promises.{Extends, Grows}
 use Rattle.network.specs.Worlds.{World, journal, state, Step, writes, reminds, accounts, none, more, Reach, beginning}
 use Rattle.pieces.specs.declared.piece.Piece.{Piece}
-use Rattle.state.specs.Changes.{apply, fits, opened, returnable}
+use Rattle.state.specs.Changes.{apply, fits, listed_all, opened, returnable}
 use Rattle.state.specs.States.{State, begun, ticket_of}
 use Rattle.state.specs.declared.record.Record.{Record}
 use Rattle.state.specs.declared.record.Record.TheVariants.{Opened, Sold, Undone, Given, Taken}
@@ -30,14 +32,20 @@ module _ (tb ub : Table) (ext : Extends tb ub) where
   listed_more : (p : Piece) (c : Bool) → (listed (tb p.train.0) p && c) ≡ true → (listed (ub p.train.0) p && c) ≡ true
   listed_more p c h = let (a, b) = and_parts (listed (tb p.train.0) p) c h in and_from (listed (ub p.train.0) p) c (ap (λ o. listed o p) (sym (there p a)) ∙ a) b
 
+  there_all : (p : Party) → listed_all (tb p.train.0) p ≡ true → tb p.train.0 ≡ ub p.train.0
+  there_all p h = let l = listed_party (tb p.train.0) p h in l.is ∙ sym (ext p.train.0 l.row l.is)
+
+  party_more : (p : Party) (c : Bool) → (listed_all (tb p.train.0) p && c) ≡ true → (listed_all (ub p.train.0) p && c) ≡ true
+  party_more p c h = let (a, b) = and_parts (listed_all (tb p.train.0) p) c h in and_from (listed_all (ub p.train.0) p) c (ap (λ o. listed_all o p) (sym (there_all p a)) ∙ a) b
+
   fits_more : (x : State) (e : Record) → fits tb x e ≡ true → fits ub x e ≡ true
   fits_more x (Opened t) f = let (a, b) = and_parts (is_some (tb t.0)) _ f in and_from (is_some (ub t.0)) _ (ap is_some (sym (some t.0 a)) ∙ a) b
-  fits_more x (Sold n p) f = listed_more p _ f
+  fits_more x (Sold n p) f = let (a, b) = and_parts (some_people (length (seats_of p))) _ f in and_from (some_people (length (seats_of p))) _ a (party_more p _ b)
   fits_more x (Undone n) f = go (ticket_of x n.0) f
     where
-      go : (y : Option Piece) → returnable tb x y ≡ true → returnable ub x y ≡ true
+      go : (y : Option Party) → returnable tb x y ≡ true → returnable ub x y ≡ true
       go None h = h
-      go (Some p) h = listed_more p _ h
+      go (Some p) h = party_more p _ h
   fits_more x (Given to n p) f = listed_more p _ f
   fits_more x (Taken from n p) f = listed_more p _ f
   fits_more x e f = f

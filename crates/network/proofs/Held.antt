@@ -1,21 +1,27 @@
 -- What a station holds of a stretch, when its words and its slots are written.
 -- Assumes nothing.
-use Rattle.std.proofs.Common.{◌≡◌, ℕ, ◌+◌, ◌<◌, ◌≤◌, Bool, true, false, cond, not, ◌&&◌, ◌||◌, ltb, ◌⊎◌, List, length, get_or, set, sym, refl, ap, ◌∙◌, ap₂, inl, inr, ⊎_elim, arith, Some, None, Option}
-use Rattle.state.specs.Changes.{with_words, taken_out, put_back}
+use Rattle.std.proofs.Common.{◌≡◌, ℕ, ◌+◌, ◌<◌, ◌≤◌, Bool, true, false, cond, not, ◌&&◌, ◌||◌, ltb, ◌⊎◌, List, [], ◌∷◌, map, length, get_or, set, sym, refl, ap, ◌∙◌, ap₂, inl, inr, ⊎_elim, arith, Some, None, Option, length-set}
+use Rattle.choosing.specs.Parties.{pieces_of, seats_of}
+use Rattle.choosing.specs.declared.party.Party.{Party}
+use Rattle.state.specs.Changes.{with_words, taken_out, put_back, taken_all, put_all, holds_all}
 use Rattle.state.specs.States.{State, place, is_open, holds_piece}
-use Rattle.network.proofs.Count.{one}
+use Rattle.network.proofs.Count.{one, count_nil, count_cons}
 use Rattle.network.proofs.Lists.{cases_two}
 use Rattle.network.proofs.Slots.{place_le, place_reads, train_is, Unique}
-use Rattle.network.specs.Places.{holding}
+use Rattle.network.specs.Places.{count_in, holding}
 use Rattle.pieces.proofs.Bitwise.{holds_less, holds_plus, holds_past, covered_decides}
 use Rattle.pieces.proofs.Places.{word_set, word_set_other, seated_in, seated_out}
-use Rattle.pieces.specs.Memory.{at, word_at, seated}
+use Rattle.pieces.specs.Memory.{Changing, at, word_at, altered, altered_all, without_all, together_all, covered_all, seated}
+use Rattle.pieces.specs.Parts.{piece_of}
 use Rattle.pieces.specs.Stretches.{holds, within, covered, less, plus}
+use Rattle.pieces.specs.declared.names.Seat.{Seat}
 use Rattle.pieces.specs.declared.names.Train.{Train}
 use Rattle.pieces.specs.declared.piece.Piece.{Piece}
+use Rattle.pieces.specs.declared.trip.Trip.{Trip}
 use Rattle.std.proofs.lemmas.Bool.Decides.{nat_tests}
 use Rattle.std.proofs.lemmas.List.{get_or_past}
-use Rattle.std.proofs.lemmas.Bool.{cond_both, ltb-false, cases_eq, cases_lt, ltb-true, lt-ltb, true≢false}
+use Rattle.std.specs.List.{AllByRecursion}
+use Rattle.std.proofs.lemmas.Bool.{and_parts, cond_both, ltb-false, cases_eq, cases_lt, ltb-true, lt-ltb, true≢false}
 
 -- ---- bits
 
@@ -57,6 +63,14 @@ pub record Seats (ss : List (Option Train)) (ws : List ℕ) : Type 0 where
 
 abbrev pub Sound : State → Type 0
 Sound x = Seats x.slots x.words
+
+-- the words of some seats changed, one after the other
+altered_length : (f : Changing) (ws : List ℕ) (k : ℕ) (ss : List Seat) (a b : ℕ) → length (altered_all f ws k ss a b) ≡ length ws
+altered_length f ws k [] a b = refl
+altered_length f ws k (s ∷ ss) a b = altered_length f (altered f ws k s.0 a b) k ss a b ∙ length-set ws _ _
+
+pub altered_sound : (f : Changing) (x : State) (k : ℕ) (ss : List Seat) (a b : ℕ) → Sound x → Sound (with_words x (altered_all f x.words k ss a b))
+altered_sound f x k ss a b h = record { slots = h.slots; words = altered_length f x.words k ss a b ∙ h.words; unique = h.unique }
 
 pub open_lt : (x : State) (t : Train) → is_open x t ≡ true → place x t < length x.slots
 open_lt x t o = ltb-true (place x t) (length x.slots) o
@@ -117,6 +131,31 @@ module _ (t : Train) (s u : ℕ) (l : s < 400) where
   in_back x p sound o b =
       let w = word_at x.words (place x p.train) p.seat.0 in
       word_ind x p sound o b (plus w p.trip.from.0 p.trip.to.0) (λ m k c. m + c ≤ 1 → k ≡ m + c) (bit_plus w p.trip.from.0 p.trip.to.0 u (omega (arith, p.trip.ordered))) (λ m _. omega arith)
+
+  -- the same of several seats of a train, one after the other
+  out_seats : (x : State) (z : Train) (r : Trip) (ss : List Seat) → Sound x → is_open x z ≡ true → covered_all x.words (place x z) ss r.from.0 r.to.0 ≡ true →
+      in_word x ≡ in_word (with_words x (without_all x.words (place x z) ss r.from.0 r.to.0)) + count_in t s u (map (λ y. piece_of z y r) ss)
+  out_seats x z r [] sound o c = omega (arith, count_nil t s u)
+  out_seats x z r (y ∷ ss) sound o c =
+      let p = piece_of z y r in
+      let (h, d) = and_parts (holds_piece x p) (covered_all (taken_out x p).words (place x z) ss r.from.0 r.to.0) c in
+      let b = ltb-true y.0 400 (and_parts (ltb y.0 400) (covered (word_at x.words (place x z) y.0) r.from.0 r.to.0) h).0 in
+      omega (arith, in_out x p sound o b h, out_seats (taken_out x p) z r ss (altered_sound less x (place x z) (y ∷ []) r.from.0 r.to.0 sound) o d, count_cons t s u p (map (λ v. piece_of z v r) ss))
+
+  pub in_out_all : (x : State) (p : Party) → Sound x → is_open x p.train ≡ true → holds_all x p ≡ true → in_word x ≡ in_word (taken_all x p) + count_in t s u (pieces_of p)
+  in_out_all x p = out_seats x p.train p.trip (seats_of p)
+
+  back_seats : (x : State) (z : Train) (r : Trip) (ss : List Seat) → Sound x → is_open x z ≡ true → AllByRecursion (λ (v : Seat). v.0 < 400) ss → in_word x + count_in t s u (map (λ y. piece_of z y r) ss) ≤ 1 →
+      in_word (with_words x (together_all x.words (place x z) ss r.from.0 r.to.0)) ≡ in_word x + count_in t s u (map (λ y. piece_of z y r) ss)
+  back_seats x z r [] sound o b h = omega (arith, count_nil t s u)
+  back_seats x z r (y ∷ ss) sound o b h =
+      let p = piece_of z y r in
+      let n = count_cons t s u p (map (λ v. piece_of z v r) ss) in
+      let e = in_back x p sound o b.0 (omega (arith, n, h)) in
+      omega (arith, e, n, back_seats (put_back x p) z r ss (altered_sound plus x (place x z) (y ∷ []) r.from.0 r.to.0 sound) o b.1 (omega (arith, e, n, h)))
+
+  pub in_back_all : (x : State) (p : Party) → Sound x → is_open x p.train ≡ true → AllByRecursion (λ (v : Seat). v.0 < 400) (seats_of p) → in_word x + count_in t s u (pieces_of p) ≤ 1 → in_word (put_all x p) ≡ in_word x + count_in t s u (pieces_of p)
+  in_back_all x p = back_seats x p.train p.trip (seats_of p)
 
   -- a train that is not open has no words
   pub in_shut : (x : State) → Sound x → is_open x t ≡ false → in_word x ≡ 0

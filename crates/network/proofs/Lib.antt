@@ -10,7 +10,11 @@ pub mod Stock
 pub mod Fine
 pub mod Linked
 pub mod Once
+pub mod Known
+pub mod Alone
+pub mod Numbers
 pub mod Kept
+pub mod Undoing
 pub mod Arrive
 pub mod Grow
 pub mod Bridge

@@ -12,6 +12,7 @@ use Rattle.state.specs.declared.record.Record.{Record}
 use Rattle.state.specs.declared.record.Record.TheVariants.{Taken, Heard}
 use Rattle.network.proofs.Count.{given_of, taken_of, given_to, taken_from, flat_push, count_append, count_rows, given_by, taken_by}
 use Rattle.network.proofs.Fine.{Fine, fine_first, fine_next, me_next}
+use Rattle.network.proofs.Held.{Sound}
 use Rattle.network.proofs.Lists.{set_ind, all_mem, Begins, begins_refl, begins_trans, begins_push, begins_next, slice_index_begins, slice_index_same}
 use Rattle.network.proofs.Local.{fits_taken}
 use Rattle.network.proofs.Moves.{hears, heard_next}
@@ -279,3 +280,14 @@ module _ (n : ℕ) (tb : Table) where
 
   pub ok_reach : {w : World} → Reach n tb w → Intact n tb w
   ok_reach r = ok_steps r ok_begin
+
+-- what holds of an empty journal, and is kept by each record that fits, holds of each station's journal
+module _ (n : ℕ) (tb : Table) (P : ℕ → List Record → Type 0) (first : (i : ℕ) → P i []) (next : (i : ℕ) (js : List Record) (e : Record) → Sound (fold (apply tb) (begun n i) js) → fits tb (fold (apply tb) (begun n i) js) e ≡ true → P i js → P i (js ++ e ∷ [])) where
+  kept : {w v : World} → Step n tb w v → Intact n tb w → ((i : ℕ) → P i (journal w i)) → (i : ℕ) → P i (journal v i)
+  kept (writes w i e l t f) ok h = wrote_ind w i e (omega (arith, ok.count)) P (next i (journal w i) e (ok.fine i).sound f (h i)) h
+  kept (reminds w i j k l) ok h = h
+  kept (accounts w i j) ok h = h
+
+  pub every : {w : World} → Reach n tb w → (i : ℕ) → P i (journal w i)
+  every none i = rw (slice_index_same {A = List Record} [] n i) (first i)
+  every (more r s) i = kept s (ok_reach n tb r) (every r) i

@@ -2,12 +2,14 @@
 -- Assumes nothing.
 use Rattle.std.proofs.Common.{◌≡◌, ℕ, ◌+◌, ◌-◌, ◌<◌, ◌≤◌, max, true, false, ◌||◌, eqb, List, [], ◌∷◌, ◌++◌, length, drop, is_some, Some, None, Option, sym, refl, ap, ◌∙◌, arith, length-append, drop-drop}
 use Rattle.std.proofs.lemmas.List.{drop-append-le}
+use Rattle.choosing.specs.Parties.{below, seats_of}
+use Rattle.choosing.specs.declared.party.Party.{Party}
 use Rattle.giving.specs.Channels.{Chan, gave, took, heard_to, line}
 use Rattle.giving.specs.declared.ids.Number.{Number}
 use Rattle.giving.specs.declared.ids.StationId.{StationId}
 use Rattle.giving.specs.declared.ids.Ticket.{Ticket}
-use Rattle.state.specs.Changes.{fits}
-use Rattle.state.specs.States.{State, place_of, is_open, known, openable, holds_piece}
+use Rattle.state.specs.Changes.{fits, holds_all, listed_all}
+use Rattle.state.specs.States.{State, place_of, is_open, known, openable, holds_piece, sold}
 use Rattle.state.specs.declared.record.Record.TheVariants.{Opened, Sold, Given, Taken, Heard}
 use Rattle.pieces.specs.declared.names.Train.{Train}
 use Rattle.pieces.specs.declared.piece.Piece.{Piece}
@@ -59,6 +61,17 @@ pub listed_row : (o : Option Row) (p : Piece) → listed o p ≡ true → Listed
 listed_row None p e = absurd (false≢true e)
 listed_row (Some r) p e = record { row = r; is = refl; seat = grind (arith, nat_tests); to = grind (arith, nat_tests) }
 
+-- the row of a party's train
+pub record ListedAll (o : Option Row) (p : Party) : Type 0 where
+  pub row : Row
+  pub is : o ≡ Some row
+  pub to : p.trip.to.0 < row.stops
+  pub seats : below row.seats (seats_of p) ≡ true
+
+pub listed_party : (o : Option Row) (p : Party) → listed_all o p ≡ true → ListedAll o p
+listed_party None p e = absurd (false≢true e)
+listed_party (Some r) p e = record { row = r; is = refl; to = grind (arith, nat_tests); seats = grind (arith, nat_tests) }
+
 pub free_lt : (x : State) → openable x ≡ true → place_of x.slots None < length x.slots
 free_lt x e = grind (arith, nat_tests)
 
@@ -66,7 +79,13 @@ module _ (tb : Table) (x : State) where
   pub fits_opened : (t : Train) → fits tb x (Opened t) ≡ true → (is_some (tb t.0) ≡ true) × (known x t ≡ false) × (place_of x.slots None < length x.slots)
   fits_opened t f = grind (arith, nat_tests)
 
-  pub fits_sold : (n : Ticket) (p : Piece) → fits tb x (Sold n p) ≡ true → (listed (tb p.train.0) p ≡ true) × (is_open x p.train ≡ true) × (holds_piece x p ≡ true)
+  pub record FitsSold (n : Ticket) (p : Party) : Type 0 where
+    pub listed : listed_all (tb p.train.0) p ≡ true
+    pub «open» : is_open x p.train ≡ true
+    pub held : holds_all x p ≡ true
+    pub next : n.0 ≡ sold x + 1
+
+  pub fits_sold : (n : Ticket) (p : Party) → fits tb x (Sold n p) ≡ true → FitsSold n p
   fits_sold n p f = grind (arith, nat_tests)
 
   pub record FitsGiven (to : StationId) (n : Number) (p : Piece) : Type 0 where

@@ -1,17 +1,20 @@
 -- What a record that fits makes of a station: its lines, and its stock of a stretch.
 -- Assumes nothing.
 use Rattle.std.proofs.Common.{◌≡◌, ℕ, ◌<◌, ◌≤◌, max, Bool, true, false, cond, ◌||◌, eqb, List, ◌++◌, length, set, is_some, Some, None, Option, refl, ap, ◌∙◌, append-nil, arith, length-set}
+use Rattle.choosing.specs.Parties.{seats_of}
+use Rattle.choosing.specs.declared.party.Party.{Party}
 use Rattle.giving.specs.Channels.{fresh}
 use Rattle.state.specs.Changes.{apply, fits, with_words, put_back, opened, received, returned}
-use Rattle.state.specs.States.{State, place_of, is_open, was_closed, known, openable, ticket_of}
+use Rattle.state.specs.States.{State, place_of, place, is_open, was_closed, known, openable, ticket_of}
 use Rattle.state.specs.declared.record.Record.{Record}
-use Rattle.state.specs.declared.record.Record.TheVariants.{Opened, Closed, Undone, Given, Taken, Heard}
+use Rattle.state.specs.declared.record.Record.TheVariants.{Opened, Closed, Sold, Undone, Given, Taken, Heard}
 use Rattle.network.proofs.Count.{given_of, taken_of}
-use Rattle.network.proofs.Held.{Sound}
+use Rattle.network.proofs.Held.{Sound, altered_sound}
 use Rattle.network.proofs.Lists.{set_ind}
 use Rattle.network.proofs.Local.{Line, line_gave, line_took, line_heard, Listed, listed_row, free_lt, fits_opened, fits_given, fits_taken, fits_heard}
 use Rattle.network.proofs.Trains.{opened_sound, closing_sound}
 use Rattle.network.specs.Worlds.{channel}
+use Rattle.pieces.specs.Stretches.{less, plus}
 use Rattle.pieces.specs.declared.names.Train.{Train}
 use Rattle.pieces.specs.declared.piece.Piece.{Piece}
 use Rattle.std.proofs.lemmas.Bool.{eq-eqb, ne_eqb, or_parts}
@@ -41,23 +44,24 @@ received_by tb x p a room = go (was_closed x p.train) refl (is_open x p.train) r
 pub record Beside (x y : State) : Type 0 where
   pub me : y.me ≡ x.me
   pub closed : y.closed ≡ x.closed
+  pub dropped : y.dropped ≡ x.dropped
   pub tickets : y.tickets ≡ x.tickets
   pub channels : y.channels ≡ x.channels
 
 pub opened_beside : (o : Option Row) (t : Train) (x : State) → Beside x (opened o t x)
-opened_beside None t x = record { me = refl; closed = refl; tickets = refl; channels = refl }
-opened_beside (Some r) t x = record { me = refl; closed = refl; tickets = refl; channels = refl }
+opened_beside None t x = record { me = refl; closed = refl; dropped = refl; tickets = refl; channels = refl }
+opened_beside (Some r) t x = record { me = refl; closed = refl; dropped = refl; tickets = refl; channels = refl }
 
-pub returned_beside : (y : Option Piece) (x : State) → Beside x (returned y x)
-returned_beside None x = record { me = refl; closed = refl; tickets = refl; channels = refl }
-returned_beside (Some p) x = record { me = refl; closed = refl; tickets = refl; channels = refl }
+pub returned_beside : (y : Option Party) (x : State) → Beside x (returned y x)
+returned_beside None x = record { me = refl; closed = refl; dropped = refl; tickets = refl; channels = refl }
+returned_beside (Some p) x = record { me = refl; closed = refl; dropped = refl; tickets = refl; channels = refl }
 
 pub received_beside : (tb : Table) (x : State) (p : Piece) → Beside x (received tb x p)
 received_beside tb x p = go (was_closed x p.train) (is_open x p.train)
   where
     go : (b c : Bool) → Beside x (cond b x (put_back (cond c x (opened (tb p.train.0) p.train x)) p))
-    go false false = let b = opened_beside (tb p.train.0) p.train x in record { me = b.me; closed = b.closed; tickets = b.tickets; channels = b.channels }
-    go _ _ = record { me = refl; closed = refl; tickets = refl; channels = refl }
+    go false false = let b = opened_beside (tb p.train.0) p.train x in record { me = b.me; closed = b.closed; dropped = b.dropped; tickets = b.tickets; channels = b.channels }
+    go _ _ = record { me = refl; closed = refl; dropped = refl; tickets = refl; channels = refl }
 
 -- ---- the lines
 
@@ -115,10 +119,11 @@ sound_next tb x (Opened t) f h = go (tb t.0) (fits_opened tb x t f)
     go None g = h
     go (Some r) (_, k, l) = opened_sound x h t r (or_parts (is_open x t) (was_closed x t) k).0 l
 sound_next tb x (Closed t) f h = closing_sound x h t f
+sound_next tb x (Sold n p) f h = altered_sound less x (place x p.train) (seats_of p) p.trip.from.0 p.trip.to.0 h
 sound_next tb x (Undone n) f h = go (ticket_of x n.0)
   where
-    go : (y : Option Piece) → Sound (returned y x)
-    go (Some p) = word_sound x _ _ h
+    go : (y : Option Party) → Sound (returned y x)
+    go (Some p) = altered_sound plus x (place x p.train) (seats_of p) p.trip.from.0 p.trip.to.0 h
     go None = h
 sound_next tb x (Taken from n p) f h = go (received_by tb x p (fits_taken tb x from n p f).listed (fits_taken tb x from n p f).room)
   where

@@ -1,14 +1,16 @@
 -- The stock of a stretch at a station, held or sold, when it writes a record.
 -- Assumes nothing.
 use Rattle.std.proofs.Common.{◌≡◌, ℕ, ◌+◌, ◌-◌, ◌<◌, ◌≤◌, true, false, cond, ◌||◌, eqb, ◌⊎◌, List, [], ◌∷◌, ◌++◌, map, length, get_or, set, is_some, Some, None, Option, sym, refl, ap, ◌∙◌, inl, inr, arith}
+use Rattle.choosing.specs.Parties.{pieces_of}
+use Rattle.choosing.specs.declared.party.Party.{Party}
 use Rattle.giving.specs.declared.ids.Ticket.{Ticket}
-use Rattle.state.proofs.Opens.{listed_seat}
-use Rattle.state.specs.Changes.{apply, fits, put_back, opened, closing, returnable, forgotten, trimmed}
+use Rattle.state.proofs.Opens.{listed_seat, listed_seats}
+use Rattle.state.specs.Changes.{apply, fits, listed_all, put_all, opened, closing, returnable, forgotten, trimmed}
 use Rattle.state.specs.States.{State, place_of, is_open, among, was_closed, known, ticket_of}
 use Rattle.state.specs.declared.record.Record.{Record}
 use Rattle.state.specs.declared.record.Record.TheVariants.{Opened, Closed, Sold, Undone, Given, Taken, Heard}
-use Rattle.network.proofs.Count.{given_of, taken_of, standing_push, standing_trimmed, one, count_nil, count_push, count_returned, count_to, one_other, count_forgotten}
-use Rattle.network.proofs.Held.{Sound, in_word, in_out, in_back, in_shut}
+use Rattle.network.proofs.Count.{given_of, taken_of, standing_push, standing_trimmed, one, count_nil, count_append, count_returned, count_to, one_other, count_forgotten}
+use Rattle.network.proofs.Held.{Sound, in_word, in_out, in_back, in_out_all, in_back_all, in_shut}
 use Rattle.network.proofs.Local.{fits_opened, fits_sold, fits_given, fits_taken}
 use Rattle.network.proofs.Moves.{Received, shut, there, anew, received_by}
 use Rattle.network.proofs.Slots.{train_is}
@@ -74,7 +76,7 @@ module _ (n : ℕ) (tb : Table) (t : Train) (s u : ℕ) (l : s < 400) where
   close_moved : (x : State) (z : Train) → Sound x → is_open x z ≡ true → Moved x (closing z x) (all_given (Closed z)) (all_taken (Closed z))
   close_moved x z h o = go (cases_eq t.0 z.0)
     where
-      xs : List (Option Piece)
+      xs : List (Option Party)
       xs = map (forgotten z) x.tickets
 
       closed : among t (x.closed ++ z ∷ []) ≡ (among t x.closed || eqb t.0 z.0)
@@ -100,12 +102,12 @@ module _ (n : ℕ) (tb : Table) (t : Train) (s u : ℕ) (l : s < 400) where
           evenly (omega (arith, e, i, c, nil))
 
   -- a ticket is undone
-  undo_moved : (x : State) (m : Ticket) (p : Piece) → Sound x → listed (tb p.train.0) p ≡ true → is_open x p.train ≡ true → ticket_of x m.0 ≡ Some p → stock x ≤ 1 →
-      in_word t s u l (put_back x p) + count_in t s u (standing (set x.tickets (m.0 - 1 - x.dropped) None)) ≡ stock x
+  undo_moved : (x : State) (m : Ticket) (p : Party) → Sound x → listed_all (tb p.train.0) p ≡ true → is_open x p.train ≡ true → ticket_of x m.0 ≡ Some p → stock x ≤ 1 →
+      in_word t s u l (put_all x p) + count_in t s u (standing (set x.tickets (m.0 - 1 - x.dropped) None)) ≡ stock x
   undo_moved x m p h a o e r =
       let stands : get_or x.tickets (m.0 - 1 - x.dropped) None ≡ Some p = grind (arith, nat_tests) in
       let b = count_returned t s u x.tickets (m.0 - 1 - x.dropped) p stands in
-      omega (arith, b, in_back t s u l x p h o (listed_seat (tb p.train.0) p a) (omega (arith, b, r)))
+      omega (arith, b, in_back_all t s u l x p h o (listed_seats (tb p.train.0) p a) (omega (arith, b, r)))
 
   -- a piece is taken
   take_moved : (x : State) (p : Piece) → Sound x → listed (tb p.train.0) p ≡ true → {y : State} → Received tb x p y → stock x + one t s u p + due y ≤ 1 + due x → Moved x y 0 (one t s u p)
@@ -124,14 +126,14 @@ module _ (n : ℕ) (tb : Table) (t : Train) (s u : ℕ) (l : s < 400) where
       go (Some v) e (_, k, q) = evenly (omega (arith, open_moved x z v h k q e, nil))
   moved x (Closed z) h c f r = close_moved x z h f
   moved x (Sold m p) h c f r =
-      let (a, o, b) = fits_sold tb x m p f in
-      evenly (omega (arith, nil, in_out t s u l x p h o (listed_seat (tb p.train.0) p a) b, ap (count_in t s u) (standing_push x.tickets p), count_push t s u (standing x.tickets) p))
+      let g = fits_sold tb x m p f in
+      evenly (omega (arith, nil, in_out_all t s u l x p h g.«open» g.held, ap (count_in t s u) (standing_push x.tickets p), count_append t s u (standing x.tickets) (pieces_of p)))
   moved x (Undone m) h c f r = go (ticket_of x m.0) refl f
     where
-      go : (y : Option Piece) → ticket_of x m.0 ≡ y → returnable tb x y ≡ true → Moved x (apply tb x (Undone m)) (all_given (Undone m)) (all_taken (Undone m))
+      go : (y : Option Party) → ticket_of x m.0 ≡ y → returnable tb x y ≡ true → Moved x (apply tb x (Undone m)) (all_given (Undone m)) (all_taken (Undone m))
       go None e g = absurd (false≢true g)
       go (Some p) e g =
-          let (a, o) = and_parts (listed (tb p.train.0) p) (is_open x p.train) g in
+          let (a, o) = and_parts (listed_all (tb p.train.0) p) (is_open x p.train) g in
           let k = rw e at r in
           rw e (evenly (omega (arith, nil, undo_moved x m p h a o e (omega (arith, k, nil)))))
   moved x (Given to m p) h c f r =

@@ -1,3 +1,4 @@
 pub mod Worlds
 pub mod Places
+pub mod Answers
 pub mod Promises

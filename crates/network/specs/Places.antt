@@ -1,5 +1,7 @@
 -- Where a stretch of a seat is.
 use Rattle.std.specs.Prelude.{ℕ, zero, suc, ◌+◌, ◌-◌, Bool, cond, List, [], ◌∷◌, ◌++◌, drop, replicate, Some, None, Option, codes, decimal}
+use Rattle.choosing.specs.Parties.{pieces_of}
+use Rattle.choosing.specs.declared.party.Party.{Party}
 use Rattle.state.specs.States.{State, place}
 use Rattle.network.specs.Worlds.{channel}
 use Rattle.network.specs.declared.place.Place.{Place}
@@ -20,13 +22,13 @@ count_in t s u [] = 0
 count_in t s u (p ∷ ps) = cond (has t.0 s u p) (1 + count_in t s u ps) (count_in t s u ps)
 
 -- the pieces of the tickets that stand
-abbrev pub piece_of : Option Piece → List Piece
-piece_of (Some p) = p ∷ []
-piece_of None = []
+abbrev pub sold_by : Option Party → List Piece
+sold_by (Some p) = pieces_of p
+sold_by None = []
 
-unfoldable pub standing : List (Option Piece) → List Piece
+unfoldable pub standing : List (Option Party) → List Piece
 standing [] = []
-standing (x ∷ xs) = piece_of x ++ standing xs
+standing (x ∷ xs) = sold_by x ++ standing xs
 
 -- the pieces on their way from i, at a state x, to j, at a state y: what waits at i, without what j has taken and i has not heard of
 abbrev pub under_way : (i j : ℕ) → State → State → List Piece

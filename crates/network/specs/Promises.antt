@@ -1,19 +1,28 @@
 -- What is promised of every world that stations can come to. Each is a type; a proof of the type is the theorem.
-use Rattle.std.specs.Prelude.{◌≡◌, ℕ, ◌+◌, ◌<◌, true, false, ◌⊎◌, List, [], ◌∷◌, ◌++◌, length, Some, ◌≢◌, slice_index_or, slice_set, None, Ok}
+use Rattle.std.specs.Prelude.{◌≡◌, ℕ, ◌+◌, ◌<◌, ◌≤◌, true, false, ◌⊎◌, List, [], ◌∷◌, ◌++◌, length, Some, None, Ok, Err, ◌≢◌, slice_index_or, slice_set}
 use mathlib.Core.List.{Memᴰ}
+use Rattle.choosing.specs.Parties.{pieces_of}
+use Rattle.choosing.specs.declared.party.Party.{Party}
+use Rattle.giving.specs.declared.ids.StationId.{StationId}
+use Rattle.giving.specs.declared.ids.Ticket.{Ticket}
 use Rattle.giving.specs.declared.message.Body.TheVariants as body
 use Rattle.giving.specs.declared.message.Message.{Message}
+use Rattle.giving.specs.declared.refusal.Refusal.TheVariants.{NothingHeld}
 use Rattle.ledger.specs.Decisions.{Answer, decided, decided_open, listing, messages, after, records}
 use Rattle.state.specs.States.{State, is_open, was_closed, known, openable, holds_piece, sold, tickets_left}
+use Rattle.ledger.specs.declared.input.Demand.{Demand}
 use Rattle.ledger.specs.declared.input.Input.{Input}
 use Rattle.ledger.specs.declared.input.Input.TheVariants.{Close, Sell, Undo, Give, Take, Hear}
 use Rattle.ledger.specs.declared.input.Outcome.TheVariants.{Done}
+use Rattle.state.specs.declared.record.Record.{Record}
 use Rattle.state.specs.declared.record.Record.TheVariants.{Sold}
-use Rattle.network.specs.Places.{places, under_way}
+use Rattle.network.specs.Answers.{Wanted, Seated, SaleAnswer, GiftAnswer, UndoAnswer, covering}
+use Rattle.network.specs.Places.{holding, places, under_way}
 use Rattle.network.specs.Worlds.{World, journal, state, Steps, Reach, Carries}
-use Rattle.pieces.specs.Parts.{has}
+use Rattle.pieces.specs.Parts.{blank, has}
 use Rattle.pieces.specs.declared.names.Train.{Train}
 use Rattle.pieces.specs.declared.piece.Piece.{Piece}
+use Rattle.std.specs.List.{AllByRecursion}
 use Rattle.timetable.specs.Rows.{Table, stretches}
 use Rattle.timetable.specs.declared.row.Row.{Row}
 
@@ -24,22 +33,47 @@ OnePlace = (n : ℕ) (tb : Table) (w : World) → Reach n tb w → (t : Train) (
     is_open (state n tb w r.first.0) t ≡ true → ((k : ℕ) → k < n → was_closed (state n tb w k) t ≡ false) →
     (s u : ℕ) → s < r.seats → u < stretches r → length (places n t s u (state n tb w)) ≡ 1
 
--- No stretch of a seat is sold under two tickets, of one station or of two.
+-- No stretch of a seat is sold twice: not under two tickets, of one station or of two, and not to two people of one ticket.
 abbrev pub NeverTwice : Type 0
-NeverTwice = (n : ℕ) (tb : Table) (w : World) → Reach n tb w → (i j a b : ℕ) (p q : Piece) → i < n → j < n →
-    slice_index_or (state n tb w i).tickets a None ≡ Some p → slice_index_or (state n tb w j).tickets b None ≡ Some q → ((i ≡ j) × (a ≡ b) → ⊥) →
-    (t s u : ℕ) → has t s u p ≡ true → has t s u q ≢ true
+NeverTwice = (n : ℕ) (tb : Table) (w : World) → Reach n tb w → (i j a b k l : ℕ) (p q : Party) → i < n → j < n →
+    slice_index_or (state n tb w i).tickets a None ≡ Some p → slice_index_or (state n tb w j).tickets b None ≡ Some q →
+    k < length (pieces_of p) → l < length (pieces_of q) → ((i ≡ j) × (a ≡ b) × (k ≡ l) → ⊥) →
+    (t s u : ℕ) → has t s u (slice_index_or (pieces_of p) k blank) ≡ true → has t s u (slice_index_or (pieces_of q) l blank) ≢ true
 
--- Nothing is sold that the train has not.
+-- Nothing is held or sold that the train has not.
 abbrev pub OnlyWhatIs : Type 0
-OnlyWhatIs = (n : ℕ) (tb : Table) (w : World) → Reach n tb w → (i a : ℕ) (p : Piece) → slice_index_or (state n tb w i).tickets a None ≡ Some p →
-    (r : Row) × (tb p.train.0 ≡ Some r) × (p.seat.0 < r.seats) × (p.trip.to.0 < r.stops)
+OnlyWhatIs = (n : ℕ) (tb : Table) (w : World) → Reach n tb w → (i : ℕ) →
+    ((t : Train) (s u : ℕ) → i < n → s < 400 → holding t s u (state n tb w i) ≡ true → (r : Row) × (tb t.0 ≡ Some r) × (s < r.seats) × (u < stretches r))
+    × ((a : ℕ) (p : Party) → slice_index_or (state n tb w i).tickets a None ≡ Some p → (r : Row) × (tb p.train.0 ≡ Some r) × (p.trip.to.0 < r.stops) × AllByRecursion (λ (q : Piece). q.seat.0 < r.seats) (pieces_of p))
 
--- A station that holds a piece sells it, and says nothing to anybody, as long as it has a number for the ticket.
+-- A ticket's number is never used again: of two sales in a station's journal the later one has the higher number.
+abbrev pub NumbersRise : Type 0
+NumbersRise = (n : ℕ) (tb : Table) (w : World) → Reach n tb w → (i : ℕ) (xs ys zs : List Record) (k l : Ticket) (p q : Party) →
+    journal w i ≡ xs ++ Sold k p ∷ (ys ++ Sold l q ∷ zs) → k.0 < l.0
+
+-- A station that has a seat for each of the people sells them, by the rule of choice, and says nothing to anybody, as long as it has a number for
+-- the ticket; one that has fewer refuses by 4, and nothing is sold.
 abbrev pub SellsAlone : Type 0
-SellsAlone = (n : ℕ) (tb : Table) (w : World) → Reach n tb w → (i : ℕ) (p : Piece) → i < n → holds_piece (state n tb w i) p ≡ true → tickets_left (state n tb w i) ≡ true →
-    (decided tb (state n tb w i) (Sell p) ≡ Ok (Done (Sold (record { 0 = sold (state n tb w i) + 1 }) p)))
-    × (messages (after tb (state n tb w i) (decided tb (state n tb w i) (Sell p))) (Sell p) (decided tb (state n tb w i) (Sell p)) ≡ [])
+SellsAlone = (n : ℕ) (tb : Table) (w : World) → Reach n tb w → (i : ℕ) (d : Demand) → i < n → d.from.0 < d.to.0 → 1 ≤ d.people → d.people ≤ 8 →
+    (d.people ≤ covering (state n tb w i) d → tickets_left (state n tb w i) ≡ true →
+    (p : Party) × (decided tb (state n tb w i) (Sell d) ≡ Ok (Done (Sold (record { 0 = sold (state n tb w i) + 1 }) p)))
+    × Seated (state n tb w i) d d.people p
+    × (messages (after tb (state n tb w i) (decided tb (state n tb w i) (Sell d))) (Sell d) (decided tb (state n tb w i) (Sell d)) ≡ []))
+    × (Wanted (tb d.train.0) d → is_open (state n tb w i) d.train ≡ true → covering (state n tb w i) d < d.people →
+    (decided tb (state n tb w i) (Sell d) ≡ Err NothingHeld)
+    × (records (decided tb (state n tb w i) (Sell d)) ≡ []) × (after tb (state n tb w i) (decided tb (state n tb w i) (Sell d)) ≡ state n tb w i))
+
+-- A sale is made, or refused on the first ground that there is.
+abbrev pub Sells : Type 0
+Sells = (n : ℕ) (tb : Table) (w : World) → Reach n tb w → (i : ℕ) (d : Demand) → i < n → SaleAnswer tb (state n tb w i) d (decided tb (state n tb w i) (Sell d))
+
+-- A gift is made, of as many seats as there can be, or refused on the first ground that there is.
+abbrev pub Gives : Type 0
+Gives = (n : ℕ) (tb : Table) (w : World) → Reach n tb w → (i : ℕ) (to : StationId) (d : Demand) → i < n → GiftAnswer tb (state n tb w i) to d (decided tb (state n tb w i) (Give to d))
+
+-- A ticket that stands can be undone, once, and any other cannot.
+abbrev pub Undoes : Type 0
+Undoes = (n : ℕ) (tb : Table) (w : World) → Reach n tb w → (i : ℕ) (m : Ticket) → UndoAnswer tb (state n tb w i) m
 
 -- what is left on its way is nothing, or begins with a piece that the other station has no room for: it does not know the train, and can open none
 abbrev pub Settled : List Piece → State → Type 0
@@ -66,9 +100,9 @@ Grows = (n : ℕ) (tb ub : Table) (w : World) → Extends tb ub → Reach n tb w
 -- what a station is told was said to it
 abbrev pub Heeds : List Message → ℕ → Input → Type 0
 Heeds ms i (Close t) = Unit {0}
-Heeds ms i (Sell p) = Unit {0}
+Heeds ms i (Sell d) = Unit {0}
 Heeds ms i (Undo m) = Unit {0}
-Heeds ms i (Give to p) = Unit {0}
+Heeds ms i (Give to d) = Unit {0}
 Heeds ms i (Take from m p) = Memᴰ (record { from = from; to = record { 0 = i }; body = body.Given m p }) ms
 Heeds ms i (Hear from m) = Memᴰ (record { from = from; to = record { 0 = i }; body = body.Taken m }) ms
 

@@ -1,7 +1,7 @@
 // Stations, each with its journal, and all that was ever said between them: each stretch of each seat is in one place.
 #![tactic(auto)]
 
-ghost use Rattle.network.specs.Promises.{OnePlace, NeverTwice, OnlyWhatIs, SellsAlone, Arrives, Grows, Runs};
+ghost use Rattle.network.specs.Promises.{OnePlace, NeverTwice, NumbersRise, OnlyWhatIs, SellsAlone, Sells, Gives, Undoes, Arrives, Grows, Runs};
 
 pub mod place;
 
@@ -15,14 +15,34 @@ pub fn never_twice_stands()
     ensures { NeverTwice }
 {}
 
-// Nothing is sold that the train has not.
+// A ticket's number is never used again.
+pub fn numbers_rise_stands()
+    ensures { NumbersRise }
+{}
+
+// Nothing is held or sold that the train has not.
 pub fn only_what_is_stands()
     ensures { OnlyWhatIs }
 {}
 
-// A station that holds a piece sells it, without a message.
+// A station that has a seat for each of the people sells them, without a message; one that has fewer sells none.
 pub fn sells_alone_stands()
     ensures { SellsAlone }
+{}
+
+// A sale is made, or refused on the first ground that there is.
+pub fn sells_stands()
+    ensures { Sells }
+{}
+
+// A gift is made, of as many seats as there can be, or refused on the first ground that there is.
+pub fn gives_stands()
+    ensures { Gives }
+{}
+
+// A ticket that stands can be undone, once, and any other cannot.
+pub fn undoes_stands()
+    ensures { Undoes }
 {}
 
 // What is on its way arrives, by saying and taking alone.

@@ -1,15 +1,10 @@
 -- The runs of held stretches around a span. Assumes nothing.
-use Rattle.std.proofs.Common.{◌≡◌, ℕ, zero, suc, ◌+◌, ◌-◌, ◌<◌, ◌≤◌, sym, ap, ◌∙◌, ⊎_elim, arith}
+use Rattle.std.proofs.Common.{◌≡◌, ℕ, zero, suc, ◌+◌, ◌-◌, sym, ap, ◌∙◌, ⊎_elim, arith}
 use Rattle.std.proofs.lemmas.Bool.{cases_lt}
 use Rattle.std.proofs.lemmas.Bool.Decides.{nat_tests}
 use Rattle.pieces.specs.Stretches.{holds, before, behind, spare, FirstOf, EndOf}
 
 -- ---- back from stop a
-
-before_le : (w a : ℕ) → before w a ≤ a
-unfolding before
-before_le w zero = omega arith
-before_le w (suc k) = let i = before_le w k in grind (arith, nat_tests)
 
 pub first_count : (w a s : ℕ) → FirstOf w a s → s + before w a ≡ a
 unfolding before
@@ -23,11 +18,6 @@ first_count w (suc p) s f =
     (cases_lt s (suc p))
 
 -- ---- on from stop b
-
-behind_le : (w k n : ℕ) → behind w k n ≤ n
-unfolding behind
-behind_le w k zero = omega arith
-behind_le w k (suc n) = let i = behind_le w (suc k) n in grind (arith, nat_tests)
 
 end_count_of : (w b e n : ℕ) → b + n ≡ 29 → EndOf w b e → e ≡ b + behind w b n
 unfolding behind
@@ -46,7 +36,3 @@ end_count w b e f = end_count_of w b e (29 - b) (omega (arith, f.above, f.near))
 pub spare_is : (w a b s e : ℕ) → FirstOf w a s → EndOf w b e → (a - s) + (e - b) ≡ spare w a b
 unfolding spare
 spare_is w a b s e f g = omega (arith, first_count w a s f, end_count w b e g)
-
-pub spare_lt : (w a b : ℕ) → a < b → b < 30 → spare w a b < 29
-unfolding spare
-spare_lt w a b h i = omega (arith, before_le w a, behind_le w b (29 - b))

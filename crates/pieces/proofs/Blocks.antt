@@ -1,21 +1,15 @@
 -- A train's part of a list of words, read and written. Assumes nothing.
-use Rattle.std.proofs.Common.{◌≡◌, ℕ, ◌+◌, ◌-◌, ◌*◌, ◌<◌, ◌≤◌, List, ◌++◌, length, get_or, take, drop, set, Some, None, Option, sym, ap, ◌∙◌, subst, ap₂, arith, length-set, MatchOption}
+use Rattle.std.proofs.Common.{◌≡◌, ℕ, ◌+◌, ◌-◌, ◌*◌, ◌<◌, ◌≤◌, List, ◌++◌, length, get_or, take, drop, set, ap, ◌∙◌, ap₂, arith, length-set}
 use borrow.Rule.Slice.PartMut.{put_mid}
 use Rattle.std.proofs.lemmas.Bool.{cases_eq}
 use Rattle.std.proofs.lemmas.Grind.{get_or-set_at}
 use Rattle.std.proofs.lemmas.List.{places, same_lists, get_or-set_other, take_at}
-use Rattle.pieces.specs.declared.names.Seat.{Seat}
 use Rattle.pieces.specs.Memory.{Changing, at, train_at, altered}
-use Rattle.pieces.specs.Search.{NoneCovers, Lowest}
-use Rattle.pieces.specs.Stretches.{Covers}
 
 -- ---- the part of n words from i on
 
 pub part_at : (xs : List ℕ) (i n s : ℕ) → s < n → get_or (take n (drop i xs)) s 0 ≡ get_or xs (i + s) 0
 part_at xs i n s l = grind (arith, places)
-
-pub part_length : (xs : List ℕ) (i n : ℕ) → i + n ≤ length xs → length (take n (drop i xs)) ≡ n
-part_length xs i n h = grind (arith, places)
 
 part_set : (xs : List ℕ) (i n s v : ℕ) → i + n ≤ length xs → s < n → put_mid i n xs (set (take n (drop i xs)) s v) ≡ set xs (i + s) v
 part_set xs i n s v h l = same_lists _ _ (grind (arith, places, length-set)) (λ k d g. grind (arith, places, length-set, get_or-set_at, get_or-set_other, cases_eq k (i + s)))
@@ -39,11 +33,3 @@ module _ (ws xs : List ℕ) (k i e : ℕ) (lent : xs ≡ ws) (from : i ≡ k * 4
       ∙ part_set ws (k * 400) 400 s v (omega arith) near
       ∙ ap (λ (w : ℕ). set ws (at k s) (f w a b)) (part_at ws (k * 400) 400 s near) in
       take_at (put_mid i (e - i) xs ys) (drop (length (put_mid i (e - i) xs ys)) ws) n (ap length done ∙ length-set ws (at k s) _ ∙ long) ∙ done
-
--- the lowest seat, of words that are the same
-pub same_lowest : (f g : ℕ → ℕ) (m n a b : ℕ) (r : Option Seat) → m ≡ n → ((s : ℕ) → s < n → f s ≡ g s)
-    → MatchOption r (NoneCovers f m a b) (λ x. Lowest f m a b x.0) → MatchOption r (NoneCovers g n a b) (λ x. Lowest g n a b x.0)
-same_lowest f g m n a b None e h r = λ s l c. r s (omega arith) (subst (λ w. Covers w a b) (sym (h s l)) c)
-same_lowest f g m n a b (Some x) e h r =
-    let near : x.0 < n = omega (arith, r.0) in
-    (near, subst (λ w. Covers w a b) (h x.0 near) r.1, λ s l c. r.2 s l (subst (λ w. Covers w a b) (sym (h s (omega arith))) c))

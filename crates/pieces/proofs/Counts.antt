@@ -1,20 +1,13 @@
--- Where a run begins and ends, by a count of ones. Assumes nothing.
-use Rattle.std.proofs.Common.{◌≡◌, ℕ, suc, ◌+◌, ◌-◌, ◌*◌, ◌/◌, ◌%◌, ◌^◌, ◌<◌, ◌≤◌, min, cond, ltb, sym, refl, ap, ◌∙◌, ⊎_elim, arith, pow-suc, shr-shr}
-use lib.Count.{trailing_of_zero}
-use Rattle.std.specs.Int.{bit_at, trailing_ones, leading_ones, w64}
-use Rattle.std.proofs.lemmas.Bool.{cases_lt, cond_both, ltb-false}
-use Rattle.std.proofs.lemmas.Nat.{shl-shr, shr_le, pow_pos, and_mask, mod_below, leading_length, le-div, div_below}
-use Rattle.std.proofs.lemmas.Nat.Bits.{bit_at-zero, bit_at-lt, bit_at_and, bit_at_not, bit_at_ones, bit_at_above, bit_at_cat_low, bit_at-trailing_ones}
+-- Where a run begins and ends, by counts of ones and zeros. Assumes nothing.
+use Rattle.std.proofs.Common.{◌≡◌, ℕ, suc, ◌+◌, ◌-◌, ◌*◌, ◌/◌, ◌%◌, ◌^◌, ◌<◌, ◌≤◌, ◌≢◌, bit_or, sym, ap, ◌∙◌, ⊎_elim, arith, pow-suc, shr-shr}
+use Rattle.std.specs.Int.{bit_at, trailing_zeros, leading_ones, w64}
+use Rattle.std.proofs.lemmas.Bool.{cases_lt}
+use Rattle.std.proofs.lemmas.Nat.{shl-shr, shr_le, pow_pos, and_mask, mod_below, or_lt, leading_length, le-div, div_below}
+use Rattle.std.proofs.lemmas.Nat.Bits.{bit_at-zero, bit_at-lt, bit_at_and, bit_at_not, bit_at_ones, bit_at_above, bit_at_cat_low, bit_at-trailing_zeros, bit_at_set_same, bit_at_set_other}
 use Rattle.pieces.specs.Stretches.{FirstOf, EndOf}
-use Rattle.pieces.proofs.Bitwise.{held, free, holds_past}
+use Rattle.pieces.proofs.Bitwise.{held, free}
 
 -- ---- the ones right before stop a: the word is moved up until the stretch before stop a is the highest bit
-
--- a shift by all 64 bits leaves none
-moved : (w d : ℕ) → d ≤ 64 → cond (ltb d 64) (w * 2 ^ d % 2 ^ 64) 0 ≡ w * 2 ^ d % 2 ^ 64
-moved w d h =
-    cond_both (ltb d 64) (w * 2 ^ d % 2 ^ 64) 0 (λ y. y ≡ w * 2 ^ d % 2 ^ 64) (λ _. refl)
-    (λ f. let q : 64 ≡ d = omega (arith, ltb-false d 64 f) in let none : 0 ≡ w * 2 ^ 64 % 2 ^ 64 = omega arith in none ∙ ap (λ (i : ℕ). w * 2 ^ i % 2 ^ 64) q)
 
 bit_cut : (y i : ℕ) → i < 64 → bit_at (y % 2 ^ 64) i ≡ bit_at y i
 bit_cut y i h =
@@ -47,9 +40,16 @@ leading_run x t h e =
           omega (arith, bit_at_not w64 x j h (omega arith), bit_top n j (omega (arith, len.3)) (omega (arith, len.2))),
     )
 
-pub start_run : (w a d x t : ℕ) → a + d ≡ 64 → x ≡ cond (ltb d 64) (w * 2 ^ d % 2 ^ 64) 0 → t ≡ leading_ones w64 x → (t ≤ a) × FirstOf w a (a - t)
-start_run w a d x t h e i =
-    let up = e ∙ moved w d (omega arith) in
+-- a word moved up by a step less, and then by one
+pub two_steps : (w a : ℕ) → a < 64 → w * 2 ^ (63 - a) % 2 ^ 64 * 2 ^ 1 % 2 ^ 64 ≡ w * 2 ^ (64 - a) % 2 ^ 64
+two_steps w a h =
+    let e : 64 - a ≡ suc (63 - a) = omega arith in
+    let p : 2 ^ (64 - a) ≡ 2 ^ (63 - a) * 2 = ap (λ (i : ℕ). 2 ^ i) e ∙ pow-suc 2 (63 - a) in
+    let q : w * 2 ^ (64 - a) ≡ w * 2 ^ (63 - a) * 2 = ap (λ (y : ℕ). w * y) p ∙ grind arith in
+    omega (arith, q)
+
+pub start_run : (w a d x t : ℕ) → a + d ≡ 64 → x ≡ w * 2 ^ d % 2 ^ 64 → t ≡ leading_ones w64 x → (t ≤ a) × FirstOf w a (a - t)
+start_run w a d x t h up i =
     let r = leading_run x t (omega (arith, mod_below (w * 2 ^ d) (2 ^ 64) (pow_pos 64))) i in
     let at : (k : ℕ) → k < a → bit_at x (d + k) ≡ bit_at w k = λ k l. ap (λ (y : ℕ). bit_at y (d + k)) up ∙ bit_up w d k (omega arith) in
     let low : t ≤ a =
@@ -66,38 +66,31 @@ start_run w a d x t h e i =
       },
     )
 
--- no stretch from 64 on is held
-pub start_past : (w a : ℕ) → w < 2 ^ 64 → 64 < a → FirstOf w a a
-start_past w a h l = record {
-  below = omega arith;
-  all = λ k i j. absurd (omega arith);
-  stops = λ k q. holds_past w 64 k h (omega arith);
-}
-
--- ---- the ones from stop b on
+-- ---- the first gap from stop b on, or stop 29
 
 bit_shr : (w b j : ℕ) → bit_at (w / 2 ^ b) j ≡ bit_at w (b + j)
 bit_shr w b j = ap (λ (x : ℕ). x % 2) (shr-shr w b j)
 
--- the first t bits are set, and the next is not
-abbrev Ones : ℕ → ℕ → Type 0
-Ones x t = ((j : ℕ) → j < t → bit_at x j ≡ 1) × (t < 64 → bit_at x t ≡ 0)
-
-ones_run : (x t : ℕ) → x < 2 ^ 64 → t ≡ trailing_ones w64 x → Ones x t
-ones_run x t h e =
-    ⊎_elim
-    (λ l. let r = bit_at-trailing_ones w64 x l in
-    (λ j g. r.2 j (omega arith), λ g. ap (bit_at x) e ∙ r.1))
-    (λ l. let q : x ≡ 2 ^ 64 - 1 = omega arith in
-    let all : t ≡ 64 = e ∙ ap (trailing_ones w64) q ∙ trailing_of_zero 64 in
-    (λ j g. ap (λ (y : ℕ). bit_at y j) q ∙ bit_at_ones 64 j (omega arith), λ g. absurd (omega arith)))
-    (cases_lt (x + 1) (2 ^ 64))
-
-pub end_run : (w b t e : ℕ) → w < 2 ^ 64 → b ≤ 29 → t ≡ trailing_ones w64 (w / 2 ^ b) → e ≡ min (b + t) 29 → EndOf w b e
-end_run w b t e f h i q =
-    let o : Ones (w / 2 ^ b) t = ones_run (w / 2 ^ b) t (omega (arith, shr_le w b)) i in record {
+pub end_run : (w b t : ℕ) → w < 2 ^ 64 → b ≤ 29 → t ≡ trailing_zeros w64 (bit_or (2 ^ 64 - 1 - w / 2 ^ b) (1 * 2 ^ (29 - b) % 2 ^ 64)) → EndOf w b (b + t)
+end_run w b t h g i =
+    let v = w / 2 ^ b in
+    let m = 29 - b in
+    let y = 2 ^ 64 - 1 - v in
+    let one = 1 * 2 ^ m % 2 ^ 64 in
+    let x = bit_or y one in
+    let small : v < 2 ^ 64 = omega (arith, shr_le w b) in
+    let top : bit_at x m ≡ 1 = bit_at_set_same w64 y m (omega arith) in
+    let other : (j : ℕ) → j ≢ m → j < 64 → bit_at x j ≡ 1 - bit_at w (b + j) =
+    λ j d l. bit_at_set_other w64 y m (omega arith) j d ∙ bit_at_not w64 v j small l ∙ ap (λ (z : ℕ). 1 - z) (bit_shr w b j) in
+    let some : 0 < x = ⊎_elim (λ z. let q : x ≡ 0 = omega arith in absurd (omega (arith, sym top ∙ ap (λ (z : ℕ). bit_at z m) q ∙ bit_at-zero m))) (λ l. l) (cases_lt x 1) in
+    let r = bit_at-trailing_zeros w64 x some (or_lt 64 y one (omega arith) (mod_below (1 * 2 ^ m) (2 ^ 64) (pow_pos 64))) in
+    let near : t ≤ m = ⊎_elim (λ l. absurd (omega (arith, top, r.2 m (omega arith)))) (λ l. l) (cases_lt m t) in record {
       above = omega arith;
       near = omega arith;
-      all = λ k g l. let p : b + (k - b) ≡ k = omega arith in held w k (ap (bit_at w) (sym p) ∙ sym (bit_shr w b (k - b)) ∙ o.0 (k - b) (omega arith));
-      stops = λ l. let p : b + t ≡ e = omega arith in free w e (ap (bit_at w) (sym p) ∙ sym (bit_shr w b t) ∙ o.1 (omega arith));
+      all = λ k p l.
+          let e : b + (k - b) ≡ k = omega arith in
+          held w k (ap (bit_at w) (sym e) ∙ omega (arith, other (k - b) (λ q. omega arith) (omega arith), r.2 (k - b) (omega arith), bit_at-lt w (b + (k - b))));
+      stops = λ l.
+          let at : bit_at x t ≡ 1 = ap (bit_at x) i ∙ r.1 in
+          free w (b + t) (omega (arith, other t (λ q. omega arith) (omega arith), at, bit_at-lt w (b + t)));
     }

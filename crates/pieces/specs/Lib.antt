@@ -2,6 +2,5 @@ pub mod Stretches
 pub mod Parts
 pub mod Memory
 pub mod Cuts
-pub mod Search
 pub mod Counts
 pub mod Laws

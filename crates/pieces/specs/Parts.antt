@@ -1,5 +1,5 @@
 -- Pieces made of a seat and a trip, and what a piece has.
-use Rattle.std.specs.Prelude.{◌≡◌, ℕ, Bool, true, false, ◌&&◌, Some, None, Option, ◌==◌, nat_lt, refl, List, ◌++◌, codes, decimal}
+use Rattle.std.specs.Prelude.{◌≡◌, ℕ, Bool, true, false, ◌&&◌, Some, None, Option, ◌==◌, nat_lt, refl}
 use Rattle.std.proofs.Common.{lit<}
 use Rattle.pieces.specs.Stretches.{within}
 use Rattle.pieces.specs.declared.names.Seat.{Seat}
@@ -28,7 +28,3 @@ blank = record { train = record { 0 = 0 }; seat = record { 0 = 0 }; trip = recor
 -- does a piece have the stretch from a stop to the next, of a seat of a train
 abbrev pub has : (train seat stop : ℕ) → Piece → Bool
 has t s u p = t == p.train.0 && (s == p.seat.0 && within p.trip.from.0 p.trip.to.0 u)
-
--- what a piece prints: its train, its seat, and from where to where
-abbrev pub printed : Piece → List ℕ
-printed p = decimal p.train.0 ++ codes " " ++ decimal p.seat.0 ++ codes ":" ++ decimal p.trip.from.0 ++ codes "-" ++ decimal p.trip.to.0

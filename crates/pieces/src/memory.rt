@@ -2,7 +2,6 @@
 ghost use Rattle.std.specs.Prelude.{◌≡◌, ℕ, ◌<◌, ◌≤◌, ◌*◌, ◌+◌, ◌&&◌, replicate, length, nat_lt, slice_index, vec_len, IfOk, MatchOption};
 ghost use Rattle.std.specs.List.{AllByRecursion};
 ghost use Rattle.pieces.specs.Memory.{word_at, train_at, altered, altered_all, seated, placed};
-ghost use Rattle.pieces.specs.Search.{NoneCovers, Lowest};
 ghost use Rattle.pieces.specs.Stretches.{holds, covered};
 ghost use Rattle.pieces.specs.declared.names.Seat.{Seat as Chair};
 
@@ -117,14 +116,5 @@ impl Memory {
         self.train(slot)
             .get(usize::from(seat.0))
             .is_some_and(|word| words::held(*word, stop))
-    }
-
-    // The lowest of the first `count` seats that covers the trip.
-    pub fn lowest(&self, slot: Slot, count: u16, trip: Trip) -> Option<Seat>
-        requires { count ≤ 400 }
-        ensures { MatchOption result (NoneCovers (word_at self.now.words.items slot.index) count trip.from.0 trip.to.0)
-            (λ seat. Lowest (word_at self.now.words.items slot.index) count trip.from.0 trip.to.0 seat.0) }
-    {
-        seats::lowest(&self.train(slot)[..usize::from(count)], trip)
     }
 }

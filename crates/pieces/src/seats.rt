@@ -1,13 +1,11 @@
 // The seats of one train, a word for each.
-ghost use Rattle.std.specs.Prelude.{◌≡◌, ◌-◌, ◌<◌, ◌≤◌, length, MatchOption, slice_index, slice_set};
+ghost use Rattle.std.specs.Prelude.{◌≡◌, ◌-◌, ◌<◌, ◌≤◌, length, slice_index, slice_set};
 ghost use Rattle.pieces.specs.Memory.{seated};
-ghost use Rattle.pieces.specs.Search.{NoneCovers, Lowest};
 ghost use Rattle.pieces.specs.Stretches.{span};
 
 use crate::change::Change;
 use crate::names::Seat;
 use crate::trip::Trip;
-use crate::words::covers;
 
 // Changes the stretches of a trip of one seat.
 pub fn change<C: Change>(seats: &mut [u64], seat: Seat, trip: Trip)
@@ -34,14 +32,4 @@ pub fn full(stops: u8) -> u64
     ensures { result ≡ span 0 (stops - 1) }
 {
     (1 << (stops - 1)) - 1
-}
-
-// The lowest seat that covers the trip.
-pub fn lowest(seats: &[u64], trip: Trip) -> Option<Seat>
-    requires { length seats.now ≤ 400 }
-    ensures { MatchOption result (NoneCovers (λ s. slice_index seats.now s) (length seats.now) trip.from.0 trip.to.0)
-        (λ seat. Lowest (λ s. slice_index seats.now s) (length seats.now) trip.from.0 trip.to.0 seat.0) }
-{
-    let seat = seats.iter().position(|word| covers(*word, trip))?;
-    Some(Seat(seat as u16))
 }

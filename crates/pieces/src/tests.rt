@@ -3,7 +3,7 @@ use crate::memory::{Memory, Slot};
 use crate::names::{Seat, Stop, Train};
 use crate::piece::Piece;
 use crate::profile::Profile;
-use crate::seats::{change, full, lowest};
+use crate::seats::{change, full};
 use crate::trip::Trip;
 use crate::words::leftover;
 use std::test::Fail;
@@ -13,13 +13,11 @@ fn trip_of(from: u8, to: u8) -> Result<Trip, Fail> {
 }
 
 #[test]
-fn takes_the_lowest_seat(rt: HostRuntime) -> Result<(), Fail> {
+fn takes_out_and_puts_back(rt: HostRuntime) -> Result<(), Fail> {
     let trip = trip_of(1, 3)?;
     let mut seats = [0b0010, full(5), full(5)];
-    assert_eq!(rt; lowest(&seats, trip), Some(Seat(1)));
     change::<TakeOut>(&mut seats, Seat(1), trip);
     assert_eq!(rt; seats[1], 0b1001);
-    assert_eq!(rt; lowest(&seats, trip), Some(Seat(2)));
     assert_eq!(rt; leftover(seats[2], trip), Some(2));
     assert_eq!(rt; Profile::count(&seats).held[1], 2);
     change::<PutBack>(&mut seats, Seat(1), trip);
@@ -48,10 +46,11 @@ fn opens_a_train(rt: HostRuntime) -> Result<(), Fail> {
     };
     assert_eq!(rt; Slot::new(64), None);
     let mut memory = Memory::new(rt.alloc())?;
-    assert_eq!(rt; memory.lowest(slot, 2, trip), None);
+    assert_eq!(rt; memory.covers(slot, Seat(0), trip), false);
     memory.open(slot, 2, full(5));
     memory.change::<TakeOut>(slot, Seat(0), trip);
-    assert_eq!(rt; memory.lowest(slot, 2, trip), Some(Seat(1)));
+    assert_eq!(rt; memory.covers(slot, Seat(0), trip), false);
+    assert_eq!(rt; memory.covers(slot, Seat(1), trip), true);
     assert_eq!(rt; memory.holds(slot, Seat(0), Stop(3)), true);
     assert_eq!(rt; memory.train(slot)[1], full(5));
     memory.change_all::<PutBack>(slot, &[Seat(0), Seat(2)], trip);

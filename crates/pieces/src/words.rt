@@ -54,14 +54,12 @@ pub fn put_back(word: u64, trip: Trip) -> u64
 
 // The stop where the run of held stretches begins that ends at stop `from`.
 fn run_start(word: u64, from: Stop) -> u8
+    requires { from.0 < 30 }
     ensures value { result + before word from.0 ≡ from.0 }
     ensures run { FirstOf word from.0 result }
 {
-    // No stretch from 64 on is held.
-    let Some(above) = 64u8.checked_sub(from.0) else {
-        return from.0;
-    };
-    let run = word.unbounded_shl(u32::from(above)).leading_ones() as u8;
+    // The stretch before the stop becomes the highest bit.
+    let run = (word << (63 - from.0) << 1).leading_ones() as u8;
     from.0 - run
 }
 
@@ -71,8 +69,10 @@ fn run_end(word: u64, to: Stop) -> u8
     ensures value { result ≡ to.0 + behind word to.0 (29 - to.0) }
     ensures run { EndOf word to.0 result }
 {
-    let run = (word >> to.0).trailing_ones() as u8;
-    (to.0 + run).min(29)
+    // Stop 29 counts as a gap.
+    let gaps = !(word >> to.0) | 1 << (29 - to.0);
+    let run = gaps.trailing_zeros() as u8;
+    to.0 + run
 }
 
 // The longest run of held stretches around the trip.

@@ -1,46 +1,53 @@
 -- A stretch of a seat counted in what a station has sold and in what waits, one place at a time.
 -- Assumes nothing.
-use Rattle.giving.specs.declared.ids.Number.{Number}
-use Rattle.giving.specs.declared.channels.Channels.{Channels}
-use Rattle.giving.specs.Posts.{chans}
-use Rattle.giving.specs.Channels.{line}
-use Rattle.std.proofs.Common.{ap₂, drop, ◌-◌, ◌≡◌, count_by, ℕ, ◌<◌, Bool, true, false, cond, ◌&&◌, ltb, ◌⊎◌, List, [], ◌∷◌, ◌++◌, map, length, get_or, sym, refl, ap, ◌∙◌, subst, inl, inr, append_assoc, append-nil, arith, Some, None, Option}
+use Rattle.std.proofs.Common.{ap₂, drop, ◌-◌, ◌≡◌, count_by, ℕ, ◌<◌, Bool, true, false, cond, ◌&&◌, ltb, ◌⊎◌, List, [], ◌∷◌, ◌++◌, map, length, get_or, sym, refl, ap, ◌∙◌, subst, inl, inr, append_assoc, append-nil, arith, Option}
 use mathlib.Core.Bool.{Bool-set}
 use mathlib.Core.Logic.{∥∥₁_elim}
+use Rattle.choosing.specs.declared.party.Party.{Party}
+use Rattle.giving.specs.Channels.{line}
+use Rattle.giving.specs.Posts.{chans}
+use Rattle.giving.specs.declared.channels.Channels.{Channels}
+use Rattle.giving.specs.declared.ids.Number.{Number}
 use Rattle.giving.specs.declared.message.Message.{Message}
+use Rattle.network.proofs.Count.{count_nil, count_append}
 use Rattle.network.proofs.Held.{Sound, in_shut}
 use Rattle.network.proofs.Linked.{ok_reach}
-use Rattle.network.specs.Places.{under_way, holding, count_in, standing}
+use Rattle.network.specs.Places.{under_way, holding, count_in, sold_by, standing}
 use Rattle.pieces.specs.Memory.{word_at}
-use Rattle.pieces.specs.Parts.{has}
+use Rattle.pieces.specs.Parts.{has, piece_of}
 use Rattle.pieces.specs.Stretches.{holds}
+use Rattle.pieces.specs.declared.names.Seat.{Seat}
 use Rattle.pieces.specs.declared.names.Train.{Train}
 use Rattle.pieces.specs.declared.piece.Piece.{Piece}
+use Rattle.pieces.specs.declared.trip.Trip.{Trip}
 use Rattle.rehearsal.proofs.Living.{here_is}
 use Rattle.rehearsal.specs.Lives.{Lives, shown, nowhere}
 use Rattle.rehearsal.specs.declared.post.Post.{Post}
 use Rattle.state.specs.States.{State, place, is_open}
-use Rattle.std.proofs.lemmas.Grind.{common_steps}
 use Rattle.std.proofs.lemmas.Bool.{cases_Bool, lt-ltb}
+use Rattle.std.proofs.lemmas.Grind.{common_steps}
+use Rattle.std.proofs.lemmas.List.Sums.{sum_by-cons}
+use Rattle.std.specs.List.{sum_by}
 use Rattle.timetable.specs.Rows.{Table}
 
 -- ---- a stretch counted by the library's words
-
--- the ticket stands and has the stretch
-abbrev pub stands : Train → (s u : ℕ) → Option Piece → Bool
-stands t s u (Some p) = has t.0 s u p
-stands t s u None = false
 
 pub waiting_counted : (t : Train) (s u : ℕ) (ps : List Piece) → count_by (has t.0 s u) ps ≡ count_in t s u ps
 unfolding count_in
 waiting_counted t s u [] = grind (arith, common_steps)
 waiting_counted t s u (p ∷ ps) = let h = waiting_counted t s u ps in grind (arith, common_steps)
 
-pub sold_counted : (t : Train) (s u : ℕ) (xs : List (Option Piece)) → count_by (stands t s u) xs ≡ count_in t s u (standing xs)
-unfolding count_in standing
-sold_counted t s u [] = grind (arith, common_steps)
-sold_counted t s u (Some p ∷ xs) = let h = sold_counted t s u xs in grind (arith, common_steps)
-sold_counted t s u (None ∷ xs) = let h = sold_counted t s u xs in grind (arith, common_steps)
+-- of the people of a party, each on a seat
+pub party_counted : (t : Train) (s u : ℕ) (z : Train) (r : Trip) (ss : List Seat) → count_by (λ x. has t.0 s u (piece_of z x r)) ss ≡ count_in t s u (map (λ x. piece_of z x r) ss)
+unfolding count_in
+party_counted t s u z r [] = grind (arith, common_steps)
+party_counted t s u z r (x ∷ ss) = let h = party_counted t s u z r ss in grind (arith, common_steps)
+
+-- of the tickets of a station
+pub sold_counted : (t : Train) (s u : ℕ) (xs : List (Option Party)) → sum_by (λ x. count_in t s u (sold_by x)) xs ≡ count_in t s u (standing xs)
+unfolding standing
+sold_counted t s u [] = omega (arith, count_nil t s u)
+sold_counted t s u (x ∷ xs) = omega (arith, sum_by-cons (λ x. count_in t s u (sold_by x)) x xs, count_append t s u (sold_by x) (standing xs), sold_counted t s u xs)
 
 -- ---- stations as they were read
 
@@ -78,6 +85,10 @@ held_at tb ps ms lives t s u l i p b e =
 
 pub found_three : {A : Type 0} (xs ys zs vs a b c : List A) → ys ≡ xs ++ a → zs ≡ ys ++ b → vs ≡ zs ++ c → vs ≡ xs ++ (a ++ (b ++ c))
 found_three xs ys zs vs a b c e f g = g ∙ ap (λ l. l ++ c) (f ∙ ap (λ l. l ++ b) e) ∙ append_assoc (xs ++ a) b c ∙ append_assoc xs a (b ++ c)
+
+-- nothing behind it
+pub found_nothing : {A : Type 0} (xs ys zs vs b c : List A) → ys ≡ xs → zs ≡ ys ++ b → vs ≡ zs ++ c → b ≡ [] → c ≡ [] → vs ≡ xs
+found_nothing xs ys zs vs b c e f g h k = g ∙ ap₂ (λ l m. l ++ m) (f ∙ ap₂ (λ l m. l ++ m) e h ∙ append-nil xs) k ∙ append-nil xs
 
 -- a part that is there only by a test
 pub found_then : {A : Type 0} (b : Bool) (xs ys a : List A) → b ≡ true → ys ≡ xs ++ a → ys ≡ xs ++ cond b a []

@@ -12,6 +12,11 @@ unfolding gather
 gather_cong zero f g h = refl
 gather_cong (suc n) f g h = ap₂ (λ xs ys. xs ++ ys) (gather_cong n f g (λ k l. h k (omega arith))) (h n (omega arith))
 
+pub gather_none : {A : Type 0} (n : ℕ) (f : ℕ → List A) → ((k : ℕ) → k < n → f k ≡ []) → gather n f ≡ []
+unfolding gather
+gather_none zero f h = refl
+gather_none (suc n) f h = ap₂ (λ xs ys. xs ++ ys) (gather_none n f (λ k l. h k (omega arith))) (h n (omega arith))
+
 pub found_none : {A : Type 0} (xs : List A) (f : ℕ → List A) → xs ≡ xs ++ gather 0 f
 unfolding gather
 found_none xs f = sym (append-nil xs)

@@ -1,3 +1,4 @@
+pub mod Absent
 pub mod Gathered
 pub mod Living
 pub mod Speaking

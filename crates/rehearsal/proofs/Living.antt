@@ -1,6 +1,6 @@
 -- A world in memory after a call of one of its stations, and after something was said.
 -- Assumes nothing.
-use Rattle.std.proofs.Common.{◌≡◌, ℕ, zero, suc, ◌+◌, ◌<◌, Bool, true, false, cond, ◌⊎◌, List, [], ◌∷◌, ◌++◌, map, length, get_or, set, replicate, Some, fold, sym, refl, ap, ◌∙◌, subst, ap₂, inl, inr, ⊎_elim, append-nil, arith, length-set, get_or-set_other, get_or-set_same, Ok, Err, ◌≤◌, length-append}
+use Rattle.std.proofs.Common.{◌≡◌, ℕ, zero, suc, ◌+◌, ◌<◌, Bool, true, false, cond, ◌⊎◌, List, [], ◌∷◌, ◌++◌, map, length, get_or, set, replicate, Some, fold, sym, refl, ap, ◌∙◌, subst, ap₂, inl, inr, ⊎_elim, arith, length-set, get_or-set_other, get_or-set_same, Ok, Err, ◌≤◌, length-append}
 use mathlib.Core.List.{Memᴰ}
 use mathlib.Core.Logic.{∥∥₁_elim, ∥∥₁_map, ∥∥₁_prop}
 use lib.ListN.{length-map, get_or-append}
@@ -14,7 +14,7 @@ use Rattle.giving.specs.declared.message.Message.{Message}
 use Rattle.ledger.proofs.Decided.{opens_admitted}
 use Rattle.ledger.specs.Decisions.{Answer, decided, decided_open, listing, after, records, messages, for_memory}
 use Rattle.ledger.specs.declared.input.Input.{Input}
-use Rattle.ledger.specs.declared.input.Outcome.TheVariants.{Done, Nothing, Passed}
+use Rattle.ledger.specs.declared.input.Outcome.TheVariants.{Done, Gave, Nothing, Passed}
 use Rattle.network.proofs.Bridge.{calls_any, opening, steps_then, put_extends}
 use Rattle.network.proofs.Grow.{grows}
 use Rattle.network.proofs.Lists.{slice_index_same}
@@ -35,7 +35,7 @@ use Rattle.state.specs.Changes.{apply}
 use Rattle.state.specs.States.{State, begun, is_open, was_closed}
 use Rattle.state.specs.declared.record.Record.{Record}
 use Rattle.std.proofs.lemmas.List.{get_or_past, get_or_default, map_push, replicate_more}
-use Rattle.std.proofs.lemmas.List.Sums.{fold_push}
+use Rattle.std.proofs.lemmas.List.Sums.{fold-append}
 use Rattle.std.proofs.lemmas.Bool.{cases_eq, cases_lt, false≢true}
 use Rattle.timetable.specs.Rows.{Table, stretches}
 use Rattle.timetable.specs.declared.row.Row.{Row}
@@ -82,17 +82,10 @@ module _ (tb : Table) (ps : List Post) (ms : List Message) (lives : Lives tb ps 
         js : List Record
         js = journal (world_of ps ms) i ++ records o
 
-        -- the records of an outcome, and what they make of a state
-        made : (x : State) (l : List Record) (o : Answer) → fold (apply ub) x (l ++ records o) ≡ after ub (fold (apply ub) x l) o
-        made x l (Ok (Done z)) = fold_push (apply ub) x l z
-        made x l (Ok Nothing) = ap (fold (apply ub) x) (append-nil l)
-        made x l (Ok (Passed z)) = ap (fold (apply ub) x) (append-nil l)
-        made x l (Err z) = ap (fold (apply ub) x) (append-nil l)
-
         go : (k : ℕ) → k < length ps → (k ≡ i) ⊎ (k ≡ i → ⊥) → get_or (set (map shown ps) i (shown q)) k nowhere ≡ fold (apply ub) (begun (length ps) k) (get_or (set (map journal_of ps) i (journal (world_of ps ms) i ++ records o)) k [])
         go k l (inl d) =
             ap (λ (m : ℕ). get_or (set (map shown ps) i (shown q)) m nowhere) d ∙ get_or-set_same (map shown ps) i (shown q) nowhere (omega (arith, length-map ps shown))
-            ∙ v ∙ ap (λ s. after ub s o) (shown_is i p b e ∙ same i) ∙ sym (made (begun (length ps) i) (journal (world_of ps ms) i) o)
+            ∙ v ∙ ap (λ s. after ub s o) (shown_is i p b e ∙ same i) ∙ sym (fold-append (apply ub) (begun (length ps) i) (journal (world_of ps ms) i) (records o))
             ∙ ap (fold (apply ub) (begun (length ps) i)) (sym (get_or-set_same (map journal_of ps) i js [] (omega (arith, length-map ps journal_of))))
             ∙ ap (λ (m : ℕ). fold (apply ub) (begun (length ps) m) (get_or (set (map journal_of ps) i js) m [])) (sym d)
         go k l (inr d) =
@@ -111,6 +104,7 @@ module _ (tb : Table) (ps : List Post) (ms : List Message) (lives : Lives tb ps 
     -- an opening
     extends : (r : Row) (o : Answer) → (for_memory o ≡ false → o ≡ decided_open tb (shown p) r) → Extends tb (listing tb r o)
     extends r (Ok (Done z)) a = put_extends tb r (opens_admitted tb (shown p) r z (sym (a refl)))
+    extends r (Ok (Gave to n z)) a = λ k q f. f
     extends r (Ok Nothing) a = λ k q f. f
     extends r (Ok (Passed z)) a = λ k q f. f
     extends r (Err z) a = λ k q f. f

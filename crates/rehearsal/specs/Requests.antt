@@ -6,6 +6,6 @@ use Rattle.rehearsal.specs.declared.request.Request.TheVariants as request
 
 abbrev pub asking : Request → Input
 asking (request.Close t) = Close t
-asking (request.Sell p) = Sell p
+asking (request.Sell d) = Sell d
 asking (request.Undo n) = Undo n
-asking (request.Give to p) = Give to p
+asking (request.Give to d) = Give to d

@@ -30,7 +30,8 @@ impl Queue {
 
     // The first message, which is taken out.
     pub fn take_first(&mut self) -> Option<usize>
-        ensures { self.old.places.items ≡ option_to_list result ++ self.new.places.items }
+        ensures value { option_to_list result ≡ take 1 self.old.places.items }
+        ensures after { self.old.places.items ≡ option_to_list result ++ self.new.places.items }
     {
         self.places.pop_front()
     }
@@ -47,9 +48,9 @@ impl Queue {
         true
     }
 
-    // Adds the messages from one place up to another, in order.
+    // Adds the messages from one place up to another, in order: none where that one is not later.
     pub fn add(&mut self, from: usize, to: usize) -> Result<(), AllocError>
-        ensures { OnOk result (from ≤ to → self.new.places.items ≡ self.old.places.items ++ gather (to - from) (λ k. (from + k) ∷ [])) }
+        ensures { OnOk result (self.new.places.items ≡ self.old.places.items ++ gather (to - from) (λ k. (from + k) ∷ [])) }
     {
         for at in from..to {
             self.places.push_back(at)?;

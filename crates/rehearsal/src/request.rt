@@ -3,16 +3,15 @@ ghost use Rattle.std.specs.Prelude.{◌≡◌};
 ghost use Rattle.rehearsal.specs.Requests.{asking};
 
 use giving::ids::{StationId, Ticket};
-use ledger::input::Input;
+use ledger::input::{Demand, Input};
 use pieces::names::Train;
-use pieces::piece::Piece;
 
 #[derive(Clone, Copy, Drop)]
 pub enum Request {
     Close(Train),
-    Sell(Piece),
+    Sell(Demand),
     Undo(Ticket),
-    Give(StationId, Piece),
+    Give(StationId, Demand),
 }
 
 impl From<Request> for Input {
@@ -21,9 +20,9 @@ impl From<Request> for Input {
     fn from(request: Request) -> Input {
         match request {
             Request::Close(train) => Input::Close(train),
-            Request::Sell(piece) => Input::Sell(piece),
+            Request::Sell(demand) => Input::Sell(demand),
             Request::Undo(ticket) => Input::Undo(ticket),
-            Request::Give(to, piece) => Input::Give(to, piece),
+            Request::Give(to, demand) => Input::Give(to, demand),
         }
     }
 }

@@ -1,5 +1,5 @@
 // What is answered to a line of the script.
-ghost use Rattle.rehearse.specs.Answers.{answer_text, record_text};
+ghost use Rattle.rehearse.specs.Answers.{answer_text, outcome_text, record_text};
 ghost use Rattle.std.specs.Prelude.{Some};
 
 use giving::refusal::Refusal;
@@ -17,8 +17,6 @@ pub const EMPTY: &str = "empty\n";
 #[derive(Clone, Copy, Drop)]
 pub enum Answer {
     Came(Result<Outcome, Refusal>),
-    // nothing was given to a station, by its number
-    GaveNone(u32),
     Ticked,
 }
 
@@ -27,12 +25,26 @@ impl fmt::Display for Answer {
 
     fn fmt<W: fmt::Write>(&self, f: &mut fmt::Formatter<W>) -> fmt::Result {
         match *self {
-            Answer::Came(Ok(Outcome::Done(entry))) => write!(f, "{}", Done(entry)),
-            Answer::Came(Ok(Outcome::Nothing)) => f.write_str("passed"),
-            Answer::Came(Ok(Outcome::Passed(refusal))) => write!(f, "passed {refusal}"),
+            Answer::Came(Ok(outcome)) => write!(f, "{}", Came(outcome)),
             Answer::Came(Err(refusal)) => write!(f, "no {refusal}"),
-            Answer::GaveNone(to) => write!(f, "gave {to} 0"),
             Answer::Ticked => f.write_str("tick"),
+        }
+    }
+}
+
+// What a call came to that was not refused.
+#[derive(Clone, Copy, Drop)]
+struct Came(Outcome);
+
+impl fmt::Display for Came {
+    ghost output = { λ c. Some (outcome_text c.0) };
+
+    fn fmt<W: fmt::Write>(&self, f: &mut fmt::Formatter<W>) -> fmt::Result {
+        match self.0 {
+            Outcome::Done(entry) => write!(f, "{}", Done(entry)),
+            Outcome::Gave(to, _, party) => write!(f, "gave {to} {}", party.len()),
+            Outcome::Nothing => f.write_str("passed"),
+            Outcome::Passed(refusal) => write!(f, "passed {refusal}"),
         }
     }
 }
@@ -48,7 +60,7 @@ impl fmt::Display for Done {
         match self.0 {
             Record::Opened(train) => write!(f, "opened {train}"),
             Record::Closed(train) => write!(f, "closed {train}"),
-            Record::Sold(ticket, piece) => write!(f, "ticket {ticket} {piece}"),
+            Record::Sold(ticket, party) => write!(f, "ticket {ticket} {party}"),
             Record::Undone(ticket) => write!(f, "undone {ticket}"),
             Record::Given(to, _, _) => write!(f, "gave {to} 1"),
             Record::Taken(_, _, _) | Record::Heard(_, _) => f.write_str("taken"),

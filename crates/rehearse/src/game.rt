@@ -1,23 +1,20 @@
 // The world of a script, and the line of messages between its stations.
+ghost use Rattle.std.specs.Prelude.{◌≡◌, min};
+
 use crate::answer::{Answer, EMPTY, NO_COMMAND};
 use crate::map::write_train;
 use giving::ids::{StationId, Ticket};
 use giving::refusal::Refusal;
-use ledger::input::Outcome;
-use pieces::names::{Seat, Train};
-use pieces::piece::Piece;
-use pieces::trip::Trip;
+use ledger::input::{Demand, Outcome};
+use pieces::names::{Stop, Train};
 use rehearsal::queue::Queue;
 use rehearsal::request::Request;
 use rehearsal::world::World;
 use script::command::{Command, Deed, Opening, Wish};
 use script::show::{Coming, Said};
-use script::values::{row, station_id, trip};
+use script::values::{byte, row, station_id};
 use std::alloc::{AllocError, Global};
 use std::collections::BTreeSet;
-
-// What is no trip or no row is refused.
-const MALFORMED: Answer = Answer::Came(Err(Refusal::Malformed));
 
 #[derive(Drop)]
 pub struct Game {
@@ -25,6 +22,18 @@ pub struct Game {
     queue: Queue,
     // the trains that were ever opened
     trains: BTreeSet<Train>,
+}
+
+// The trip that so many people want, as a line says it.
+fn demand(wish: Wish) -> Demand
+    ensures { (result.train.0 ≡ wish.train) × (result.from.0 ≡ min wish.from 255) × (result.to.0 ≡ min wish.to 255) × (result.people ≡ min wish.people 255) }
+{
+    Demand {
+        train: Train(wish.train),
+        from: Stop(byte(wish.from)),
+        to: Stop(byte(wish.to)),
+        people: byte(wish.people),
+    }
 }
 
 impl Game {
@@ -91,8 +100,10 @@ impl Game {
             Deed::Open(opening) => self.open(who, opening),
             Deed::Close { train } => Ok(self.ask(who, Request::Close(Train(train)))),
             Deed::Undo { ticket } => Ok(self.ask(who, Request::Undo(Ticket(ticket)))),
-            Deed::Sell(wish) => Ok(self.sell(who, wish)),
-            Deed::Give { to, wish } => Ok(self.give(who, to, wish)),
+            Deed::Sell(wish) => Ok(self.ask(who, Request::Sell(demand(wish)))),
+            Deed::Give { to, wish } => {
+                Ok(self.ask(who, Request::Give(station_id(to), demand(wish))))
+            }
             Deed::Tick => Ok(self.tick(who)),
         }
     }
@@ -105,7 +116,7 @@ impl Game {
     // A train is opened, and all stations have its row.
     fn open(&mut self, who: StationId, opening: Opening) -> Result<Option<Answer>, AllocError> {
         let Some(row) = row(opening, self.world.stations()) else {
-            return Ok(Some(MALFORMED));
+            return Ok(Some(Answer::Came(Err(Refusal::Malformed))));
         };
         let came = self.world.open(who, row);
         if let Some(Ok(Outcome::Done(_))) = came {
@@ -114,48 +125,12 @@ impl Game {
         Ok(came.map(Answer::Came))
     }
 
-    // A trip is sold.
-    fn sell(&mut self, who: StationId, wish: Wish) -> Option<Answer> {
-        let Some(piece) = self.choose(who, wish) else {
-            return Some(MALFORMED);
-        };
-        self.ask(who, Request::Sell(piece))
-    }
-
-    // A give to a station, by its number: it may come to nothing.
-    fn give(&mut self, who: StationId, to: u32, wish: Wish) -> Option<Answer> {
-        let Some(piece) = self.choose(who, wish) else {
-            return Some(MALFORMED);
-        };
-        match self.world.ask(who, Request::Give(station_id(to), piece))? {
-            Ok(Outcome::Nothing) => Some(Answer::GaveNone(to)),
-            came => Some(Answer::Came(came)),
-        }
-    }
-
     // A tick: all that waits is said again.
     fn tick(&mut self, who: StationId) -> Option<Answer> {
         match self.world.tick(who)? {
             Ok(()) => Some(Answer::Ticked),
             Err(refusal) => Some(Answer::Came(Err(refusal))),
         }
-    }
-
-    // The piece that is taken for a wish of one traveller: of the lowest seat that covers it, and of seat 0 where none does.
-    fn choose(&self, who: StationId, wish: Wish) -> Option<Piece> {
-        if wish.people != 1 {
-            return None;
-        }
-        let train = Train(wish.train);
-        let trip = trip(wish.from, wish.to)?;
-        let seat = self.lowest(who, train, trip).unwrap_or(Seat(0));
-        Some(Piece::new(train, seat, trip))
-    }
-
-    // The lowest seat of a train that covers a trip, at a station.
-    fn lowest(&self, who: StationId, train: Train, trip: Trip) -> Option<Seat> {
-        let row = self.world.row(train)?;
-        self.world.station(who)?.lowest(train, row.seats, trip)
     }
 
     // A message is delivered: it is printed, then what is said of it, then what it came to.

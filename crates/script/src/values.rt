@@ -4,24 +4,21 @@ ghost use Rattle.timetable.specs.Additions.{rowable};
 
 use crate::command::Opening;
 use giving::ids::StationId;
-use pieces::names::{Stop, Train};
-use pieces::trip::Trip;
+use pieces::names::Train;
 use timetable::row::Row;
 
-// The trip from a stop to a stop, where both can be stops.
-pub fn trip(from: u32, to: u32) -> Option<Trip>
-    ensures { MatchOption result ((from < to) × (to < 30) → ⊥) (λ t. (t.from.0 ≡ from) × (t.to.0 ≡ to)) }
+// A number as a byte: one that is none is 255, which is no stop, and too many people.
+pub fn byte(number: u32) -> u8
+    ensures { result ≡ min number 255 }
 {
-    let from = u8::try_from(from).ok()?;
-    let to = u8::try_from(to).ok()?;
-    Trip::new(Stop(from), Stop(to))
+    u8::try_from(number).unwrap_or(u8::MAX)
 }
 
 // A station by its number; one that cannot be is the last of all, which is never there.
 pub fn station_id(number: u32) -> StationId
     ensures { result.0 ≡ min number 255 }
 {
-    StationId(u8::try_from(number).unwrap_or(u8::MAX))
+    StationId(byte(number))
 }
 
 // The row of a train that is to be opened among so many stations, where it can be one.

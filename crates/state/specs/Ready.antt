@@ -1,6 +1,10 @@
 -- What a record needs besides that it fits, and the smaller changes that records are made of.
 use Rattle.std.specs.Prelude.{◌≡◌, ◌+◌, ◌<◌, ◌≤◌, true, vec_len, vec_capacity, Some, None, Option}
+use Rattle.choosing.specs.Parties.{seats_of}
+use Rattle.choosing.specs.declared.party.Party.{Party}
+use Rattle.pieces.specs.declared.names.Seat.{Seat}
 use Rattle.pieces.specs.declared.piece.Piece.{Piece}
+use Rattle.std.specs.List.{AllByRecursion}
 use Rattle.state.specs.Changes.{stale, trimmed}
 use Rattle.state.specs.States.{State, is_open}
 use Rattle.state.specs.declared.record.Record.{Record}
@@ -31,9 +35,13 @@ Spent s (Heard from n) = ⊥
 abbrev pub Seated : State → Piece → Type 0
 Seated s p = (p.seat.0 < 400) × (is_open s p.train ≡ true)
 
--- a ticket that stands, for such a piece
-abbrev pub Standing : State → Option Piece → Type 0
-Standing s (Some p) = Seated s p
+-- and a party of such pieces
+abbrev pub SeatedAll : State → Party → Type 0
+SeatedAll s p = AllByRecursion (λ (x : Seat). x.0 < 400) (seats_of p) × (is_open s p.train ≡ true)
+
+-- a ticket that stands, for such a party
+abbrev pub Standing : State → Option Party → Type 0
+Standing s (Some p) = SeatedAll s p
 Standing s None = ⊥
 
 -- the tickets at the front that do not stand any more are dropped

@@ -1,5 +1,6 @@
 -- A station's lasting state as plain lists, and what can be read off it.
 use Rattle.std.specs.Prelude.{ℕ, suc, ◌+◌, ◌-◌, Bool, true, false, cond, ◌&&◌, ◌||◌, List, [], ◌∷◌, length, replicate, ◌==◌, nat_lt, slice_index_or, Some, None, Option}
+use Rattle.choosing.specs.declared.party.Party.{Party}
 use Rattle.giving.specs.Channels.{Chan, fresh}
 use Rattle.pieces.specs.Memory.{word_at}
 use Rattle.pieces.specs.Stretches.{covered}
@@ -14,7 +15,7 @@ pub record State : Type 0 where
   pub words : List ℕ
   pub closed : List Train
   pub dropped : ℕ
-  pub tickets : List (Option Piece)
+  pub tickets : List (Option Party)
   pub channels : List Chan
 
 -- number `me` of n stations, which has done nothing yet
@@ -68,5 +69,5 @@ sold s = s.dropped + length s.tickets
 abbrev pub tickets_left : State → Bool
 tickets_left s = nat_lt (sold s) 4294967295
 
-abbrev pub ticket_of : State → ℕ → Option Piece
+abbrev pub ticket_of : State → ℕ → Option Party
 ticket_of s n = cond (nat_lt s.dropped n) (slice_index_or s.tickets (n - 1 - s.dropped) None) None

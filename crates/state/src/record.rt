@@ -1,4 +1,5 @@
 // What a station writes down.
+use choosing::party::Party;
 use giving::ids::{Number, StationId, Ticket};
 use pieces::names::Train;
 use pieces::piece::Piece;
@@ -8,7 +9,7 @@ use pieces::piece::Piece;
 pub enum Record {
     Opened(Train),
     Closed(Train),
-    Sold(Ticket, Piece),
+    Sold(Ticket, Party),
     Undone(Ticket),
     // given to a station, under a number
     Given(StationId, Number, Piece),

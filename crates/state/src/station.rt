@@ -1,16 +1,16 @@
 // A station: its open trains with what it holds of them, its closed trains, its tickets, and its channels.
 ghost use Rattle.std.specs.Prelude.{◌≡◌, ◌+◌, ◌≤◌, vec_len};
 
+use choosing::party::Party;
 use giving::channels::Channels;
 use pieces::memory::Memory;
 use pieces::names::Train;
-use pieces::piece::Piece;
 
 pub mod changes;
 pub mod reads;
 pub mod sales;
 
-// Each open train has a slot. The ticket with the number n stands at n - 1 - dropped: it has its piece while it stands, and none
+// Each open train has a slot. The ticket with the number n stands at n - 1 - dropped: it has its party while it stands, and none
 // once it was undone or its train was closed.
 #[derive(Drop)]
 pub struct Station {
@@ -18,7 +18,7 @@ pub struct Station {
     memory: Memory,
     closed: Vec<Train>,
     dropped: u32,
-    tickets: Vec<Option<Piece>>,
+    tickets: Vec<Option<Party>>,
     channels: Channels,
     ghost many: { vec_len slots ≡ 64 },
     ghost numbered: { dropped + vec_len tickets ≤ 4294967295 },

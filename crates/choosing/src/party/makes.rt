@@ -1,6 +1,6 @@
-// Parties made, and read.
-ghost use Rattle.std.specs.Prelude.{◌≡◌, ◌<◌, ◌&&◌, List, [], ◌∷◌, ◌++◌, length, nat_lt};
-ghost use Rattle.choosing.specs.Parties.{party_of, seats_of, below};
+// Parties made, read, and printed.
+ghost use Rattle.std.specs.Prelude.{◌≡◌, ◌<◌, ◌&&◌, List, [], ◌∷◌, ◌++◌, length, nat_lt, Some};
+ghost use Rattle.choosing.specs.Parties.{party_of, seats_of, below, printed};
 ghost use Rattle.pieces.specs.declared.names.Seat.{Seat as Chair};
 ghost use Rattle.pieces.specs.declared.names.Train.{Train as Run};
 ghost use Rattle.pieces.specs.declared.trip.Trip.{Trip as Way};
@@ -8,6 +8,7 @@ ghost use Rattle.pieces.specs.declared.trip.Trip.{Trip as Way};
 use super::{MOST, Party};
 use pieces::names::{Seat, Train};
 use pieces::trip::Trip;
+use std::fmt;
 
 impl Party {
     // A party with nobody in it yet.
@@ -50,5 +51,18 @@ impl Party {
         ensures { result ≡ (nat_lt self.now.trip.to.0 stops && below seats (seats_of self.now)) }
     {
         self.trip.to.0 < stops && self.seats().iter().all(|seat| seat.0 < seats)
+    }
+}
+
+impl fmt::Display for Party {
+    ghost output = { λ p. Some (printed p) };
+
+    fn fmt<W: fmt::Write>(&self, f: &mut fmt::Formatter<W>) -> fmt::Result {
+        let Trip { from, to, .. } = self.trip;
+        write!(f, "{}", self.train)?;
+        for seat in self.seats() {
+            write!(f, " {seat}:{from}-{to}")?;
+        }
+        Ok(())
     }
 }

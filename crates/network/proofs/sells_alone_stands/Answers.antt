@@ -1,4 +1,4 @@
-use Rattle.network.proofs.Once.{alone}
+use Rattle.network.proofs.Alone.{alone}
 use Rattle.network.proofs.sells_alone_stands.Goals as goal
 
 pub returns : goal.returns

@@ -1,13 +1,12 @@
-// Pieces made of a seat and a trip, pieces cut in parts, and their text.
-ghost use Rattle.std.specs.Prelude.{◌≡◌, ◌<◌, Some, MatchOption};
-ghost use Rattle.pieces.specs.Parts.{piece_of, has, printed};
+// Pieces made of a seat and a trip, and pieces cut in parts.
+ghost use Rattle.std.specs.Prelude.{◌≡◌, ◌<◌, MatchOption};
+ghost use Rattle.pieces.specs.Parts.{piece_of, has};
 ghost use Rattle.pieces.specs.Cuts.{Inside, IsPart, Before, Behind};
 
 use crate::names::{Seat, Stop, Train};
 use crate::piece::Piece;
 use crate::stretch::Stretch;
 use crate::trip::Trip;
-use std::fmt;
 
 impl Piece {
     pub fn new(train: Train, seat: Seat, trip: Trip) -> Piece
@@ -46,14 +45,5 @@ impl Piece {
         let before = self.part(self.trip.from, trip.from);
         let behind = self.part(trip.to, self.trip.to);
         Some((before, behind))
-    }
-}
-
-impl fmt::Display for Piece {
-    ghost output = { λ p. Some (printed p) };
-
-    fn fmt<W: fmt::Write>(&self, f: &mut fmt::Formatter<W>) -> fmt::Result {
-        let Trip { from, to, .. } = self.trip;
-        write!(f, "{} {}:{from}-{to}", self.train, self.seat)
     }
 }

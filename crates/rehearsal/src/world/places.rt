@@ -1,5 +1,6 @@
 // Where a stretch of a seat is: what the stations of a world hold, what they have sold, and what is on its way between them.
-ghost use Rattle.std.specs.Prelude.{◌≡◌, count_by, ◌<◌, ◌≤◌, ◌++◌, drop, replicate, IfOk, OnOk};
+ghost use Rattle.std.specs.Prelude.{◌≡◌, count_by, ◌<◌, ◌≤◌, [], ◌++◌, drop, replicate, IfOk, OnOk};
+ghost use Rattle.choosing.specs.Parties.{pieces_of};
 ghost use Rattle.giving.specs.Channels.{chan, line};
 ghost use Rattle.giving.specs.Posts.{chans};
 ghost use Rattle.network.specs.Places.{count_in, standing, under_way};
@@ -9,23 +10,37 @@ ghost use Rattle.rehearsal.specs.Seen.{count, state_of};
 ghost use Rattle.state.specs.Views.{view};
 
 use super::World;
+use choosing::party::Party;
 use giving::channel::Channel;
 use giving::channels::Channels;
 use giving::ids::StationId;
 use network::place::Place;
+use pieces::piece::Piece;
 use pieces::stretch::Stretch;
 use state::station::Station;
 use std::alloc::{AllocError, Global};
 
-// How many tickets of a station stand and have the stretch.
+// How many pieces of a party have the stretch.
+fn count_party(party: &Party, at: Stretch) -> usize
+    ensures value { result ≡ count_in at.train at.seat.0 at.stop.0 (pieces_of party.now) }
+    ensures few { result ≤ 8 }
+{
+    party
+        .seats()
+        .iter()
+        .filter(|seat| Piece::new(party.train, **seat, party.trip).has(at))
+        .count()
+}
+
+// How many pieces of the tickets of a station that stand have the stretch.
 fn count_sold(station: &Station, at: Stretch) -> usize
     ensures { result ≡ count_in at.train at.seat.0 at.stop.0 (standing (view station.now).tickets) }
 {
     station
         .tickets()
         .iter()
-        .filter(|ticket| ticket.is_some_and(|piece| piece.has(at)))
-        .count()
+        .map(|ticket| ticket.map_or(0, |party| count_party(&party, at)))
+        .sum()
 }
 
 // How many of the pieces that wait in a channel have the stretch, without the first ones.
@@ -88,7 +103,8 @@ impl World {
     // All places of the stretch that a station knows of.
     fn spots(&self, found: &mut Vec<Place>, who: StationId, at: Stretch) -> Result<(), AllocError>
         requires { who.0 < count self.now }
-        ensures { OnOk result (at.seat.0 < 400 → found.new.items ≡ found.old.items ++ spots_of self.now at.train at.seat.0 at.stop.0 who.0) }
+        ensures all { OnOk result (at.seat.0 < 400 → found.new.items ≡ found.old.items ++ spots_of self.now at.train at.seat.0 at.stop.0 who.0) }
+        ensures none { OnOk result (400 ≤ at.seat.0 → found.new.items ≡ found.old.items) }
     {
         let station = &self.post(who).station;
         if station.holds_stretch(at) {
@@ -98,9 +114,10 @@ impl World {
         self.ways(found, who, at)
     }
 
-    // All places where a stretch is, by station.
+    // All places where a stretch is, by station. No train has a seat with a number of 400 or more.
     pub fn find(&self, heap: Global, at: Stretch) -> Result<Vec<Place>, AllocError>
         ensures all { IfOk result (λ v. (at.seat.0 < 400 → v.items ≡ places_of self.now at.train at.seat.0 at.stop.0)) }
+        ensures none { IfOk result (λ v. (400 ≤ at.seat.0 → v.items ≡ [])) }
         ensures one { IfOk result (λ v. OneIn self.now at.train at.seat.0 at.stop.0 v.items) }
     {
         let mut found = Vec::new(heap);

@@ -3,8 +3,8 @@ ghost use Rattle.std.specs.Prelude.{◌≡◌, ◌+◌, ◌-◌, ◌<◌, true, 
 ghost use Rattle.giving.specs.Calls.{givable};
 ghost use Rattle.giving.specs.Channels.{gave, heard_to, line, news, other, took};
 ghost use Rattle.giving.specs.declared.refusal.Refusal.TheVariants.{Memory};
-ghost use Rattle.state.specs.Changes.{apply, changed, closing, fits, forgotten, opened, put_back, received, returned, taken_out, with_line, with_tickets};
-ghost use Rattle.state.specs.Ready.{Ready, Seated, Spent, Standing, trimming};
+ghost use Rattle.state.specs.Changes.{apply, changed, changed_all, closing, fits, forgotten, opened, put_all, put_back, received, returned, taken_all, taken_out, with_line, with_tickets};
+ghost use Rattle.state.specs.Ready.{Ready, Seated, SeatedAll, Spent, Standing, trimming};
 ghost use Rattle.state.specs.States.{is_open, known, openable, ticket_of, tickets_left};
 ghost use Rattle.state.specs.Views.{view};
 ghost use Rattle.timetable.specs.Rows.{listed};
@@ -13,6 +13,7 @@ ghost use Rattle.timetable.specs.Tables.{table as rows_of};
 use super::Station;
 use super::sales::{forget_all, stale_count};
 use crate::record::Record;
+use choosing::party::Party;
 use giving::ids::{Number, StationId, Ticket};
 use giving::refusal::Refusal;
 use pieces::change::{Change, PutBack, TakeOut};
@@ -29,6 +30,15 @@ impl Station {
     {
         let slot = self.slot(Some(piece.train)).unwrap();
         self.memory.change::<C>(slot, piece.seat, piece.trip);
+    }
+
+    // Changes what is held of the pieces of a party, one after the other.
+    fn change_all<C: Change>(&mut self, party: Party)
+        requires { SeatedAll (view self.old) party }
+        ensures { view self.new ≡ changed_all C.changed (view self.old) party }
+    {
+        let slot = self.slot(Some(party.train)).unwrap();
+        self.memory.change_all::<C>(slot, party.seats(), party.trip);
     }
 
     // Takes a piece out of what is held.
@@ -105,15 +115,15 @@ impl Station {
         self.trim();
     }
 
-    // Sells a piece that is held.
-    fn sell(&mut self, piece: Piece)
-        requires seated { Seated (view self.old) piece }
+    // Sells the pieces of a party under one ticket.
+    fn sell(&mut self, party: Party)
+        requires seated { SeatedAll (view self.old) party }
         requires left { tickets_left (view self.old) ≡ true }
         requires ready { vec_len self.old.tickets < vec_capacity self.old.tickets }
-        ensures { view self.new ≡ with_tickets (taken_out (view self.old) piece) ((view self.old).tickets ++ Some piece ∷ []) }
+        ensures { view self.new ≡ with_tickets (taken_all (view self.old) party) ((view self.old).tickets ++ Some party ∷ []) }
     {
-        self.tickets.push_reserved(Some(piece));
-        self.take_out(piece);
+        self.tickets.push_reserved(Some(party));
+        self.change_all::<TakeOut>(party);
     }
 
     // Undoes a ticket that stands.
@@ -123,7 +133,7 @@ impl Station {
     {
         let sold = self.ticket(n).unwrap();
         self.tickets[(n.0 - 1 - self.dropped) as usize] = None;
-        self.put_back(sold);
+        self.change_all::<PutBack>(sold);
     }
 
     // Gives a piece that is held to another station.
@@ -190,7 +200,7 @@ impl Station {
         match entry {
             Record::Opened(train) => self.open_train(table, train),
             Record::Closed(train) => self.close_train(train),
-            Record::Sold(_, piece) => self.sell(piece),
+            Record::Sold(_, party) => self.sell(party),
             Record::Undone(ticket) => self.undo(ticket),
             Record::Given(to, _, piece) => self.give(to, piece),
             Record::Taken(from, number, piece) => self.take(table, from, number, piece),

@@ -1,16 +1,19 @@
 // What a station can tell.
 ghost use Rattle.std.specs.Prelude.{◌≡◌, ◌<◌, ◌≤◌, true, ◌&&◌, length, IfOk, MatchOption, nat_lt};
+ghost use Rattle.choosing.specs.Choice.{group};
+ghost use Rattle.choosing.specs.Parties.{party_of};
 ghost use Rattle.pieces.specs.Memory.{word_at};
-ghost use Rattle.pieces.specs.Search.{NoneCovers, Lowest};
 ghost use Rattle.pieces.specs.Stretches.{holds};
 ghost use Rattle.state.specs.States.{begun, same, place_of, place, is_open, was_closed, known, openable, holds_piece, sold, tickets_left, ticket_of};
 ghost use Rattle.state.specs.Views.{view};
 
 use super::Station;
+use choosing::choice::choose_all_at;
+use choosing::party::Party;
 use giving::channels::Channels;
 use giving::ids::{StationId, Ticket};
 use pieces::memory::{Memory, PLACES, Slot};
-use pieces::names::{Seat, Train};
+use pieces::names::Train;
 use pieces::piece::Piece;
 use pieces::stretch::Stretch;
 use pieces::trip::Trip;
@@ -115,14 +118,13 @@ impl Station {
         self.memory.holds(slot, at.seat, at.stop)
     }
 
-    // The lowest of the first `count` seats that covers a trip; a train that is not open has none.
-    pub fn lowest(&self, train: Train, count: u16, trip: Trip) -> Option<Seat>
-        requires { count ≤ 400 }
-        ensures { MatchOption result (is_open (view self.now) train ≡ true → NoneCovers (word_at (view self.now).words (place (view self.now) train)) count trip.from.0 trip.to.0)
-            (λ seat. (is_open (view self.now) train ≡ true) × Lowest (word_at (view self.now).words (place (view self.now) train)) count trip.from.0 trip.to.0 seat.0) }
+    // The seats for so many people on an open train with `count` seats, or for as many as there are, by the rule of choice.
+    pub fn choose(&self, train: Train, count: u16, trip: Trip, people: u8) -> Party
+        requires { (is_open (view self.now) train ≡ true) × ((count ≤ 400) × (people ≤ 8)) }
+        ensures { result ≡ party_of train trip (group people (word_at (view self.now).words (place (view self.now) train)) count trip.from.0 trip.to.0) }
     {
-        let slot = self.slot(Some(train))?;
-        self.memory.lowest(slot, count, trip)
+        let slot = self.slot(Some(train)).unwrap();
+        choose_all_at(&self.memory, slot, count, train, trip, people)
     }
 
     // How many tickets were ever sold.
@@ -140,14 +142,14 @@ impl Station {
     }
 
     // The tickets that are kept, in the order of their numbers.
-    pub fn tickets(&self) -> &[Option<Piece>]
+    pub fn tickets(&self) -> &[Option<Party>]
         ensures { result.now ≡ (view self.now).tickets }
     {
         &self.tickets
     }
 
-    // The piece of a ticket that stands.
-    pub fn ticket(&self, n: Ticket) -> Option<Piece>
+    // The party of a ticket that stands.
+    pub fn ticket(&self, n: Ticket) -> Option<Party>
         ensures { result ≡ ticket_of (view self.now) n.0 }
     {
         let at = n.0.checked_sub(self.dropped)?.checked_sub(1)?;

@@ -2,18 +2,18 @@
 ghost use Rattle.std.specs.Prelude.{◌≡◌, ◌≤◌, map, length};
 ghost use Rattle.state.specs.Changes.{forgotten, stale};
 
+use choosing::party::Party;
 use pieces::names::Train;
-use pieces::piece::Piece;
 
 // A ticket of a train is forgotten.
-fn without_train(sale: Option<Piece>, train: Train) -> Option<Piece>
+fn without_train(sale: Option<Party>, train: Train) -> Option<Party>
     ensures { result ≡ forgotten train sale }
 {
-    sale.filter(|piece| piece.train != train)
+    sale.filter(|party| party.train != train)
 }
 
 // Forgets the tickets of a train.
-pub(super) fn forget_all(sales: &mut [Option<Piece>], train: Train)
+pub(super) fn forget_all(sales: &mut [Option<Party>], train: Train)
     ensures { sales.new ≡ map (forgotten train) sales.old }
 {
     for sale in sales.iter_mut() {
@@ -22,7 +22,7 @@ pub(super) fn forget_all(sales: &mut [Option<Piece>], train: Train)
 }
 
 // How many tickets at the front do not stand any more.
-pub(super) fn stale_count(sales: &[Option<Piece>]) -> usize
+pub(super) fn stale_count(sales: &[Option<Party>]) -> usize
     ensures value { result ≡ stale sales.now }
     ensures within { result ≤ length sales.now }
 {
