@@ -1,8 +1,15 @@
 -- What is done with a station in an example, what is seen, and that it goes so.
-use Rattle.std.specs.Prelude.{◌≡◌, ℕ, Bool, true, false, ◌||◌, List, [], ◌∷◌, map, Option, Ok, Err, OnErr, fold}
+use Rattle.std.specs.Prelude.{◌≡◌, ℕ, Bool, true, false, ◌||◌, List, [], ◌∷◌, map, Some, None, Option, Ok, Err, OnErr, fold}
+use Rattle.asking.specs.Events.{Response, resolved}
+use Rattle.asking.specs.Minds.{Inquiry, Mind, wanted}
+use Rattle.asking.specs.Replies.{lasting, minded, spoken, written}
+use Rattle.asking.specs.declared.event.Event.{Event}
+use Rattle.asking.specs.declared.event.Event.TheVariants.{Call}
+use Rattle.asking.specs.declared.event.Reply.TheVariants.{Came}
 use Rattle.choosing.specs.declared.party.Party.{Party}
+use Rattle.giving.specs.declared.ids.StationId.{StationId}
 use Rattle.giving.specs.declared.message.Message.{Message}
-use Rattle.ledger.specs.Decisions.{Answer, after, decided, messages, records}
+use Rattle.ledger.specs.Decisions.{Answer}
 use Rattle.ledger.specs.declared.input.Input.{Input}
 use Rattle.ledger.specs.declared.input.Outcome.TheVariants.{Done, Gave, Nothing, Passed}
 use Rattle.pieces.specs.Memory.{word_at}
@@ -18,22 +25,46 @@ use Rattle.timetable.specs.declared.row.Row.{Row}
 
 -- one thing that is done or seen
 pub data Play : Type 0 where
-  -- what a station is asked, and what it answers; it writes the record of what was done, if anything was, and says nothing
-  calls : Input → Answer → Play
-  -- what it is asked or told, and what it answers, writes and says
-  says : Input → Answer → List Record → List Message → Play
+  -- what comes to a station, and what it answers, writes and says
+  happens : Event → Response → List Record → List Message → Play
   -- what it holds of a seat: each run from a stop to a stop, and no other stretch
   held : (seat : ℕ) → (runs : List (ℕ × ℕ)) → Play
   -- all tickets that it ever sold, from the first on: the party of one that stands
   tickets : List (Option Party) → Play
+  -- for how many people it still asks others, and who is still to answer, the first of these being asked now
+  awaits : (people : ℕ) → (order : List StationId) → Play
 
--- station `me` of so many, which knows the one train of `row`; its journal; and what is done and seen from there on, in order
+-- station `me` of so many, which knows the one train of `row`; its journal and its mind; and what is done and seen from there on, in order
 pub record Case : Type 0 where
   pub me : ℕ
   pub stations : ℕ
   pub row : Row
   pub journal : List Record
+  pub mind : Mind
   pub plays : List Play
+
+-- ---- calls
+
+-- an answer to a call, where nobody else is to be asked for it
+abbrev pub came : Answer → Response
+came (Ok o) = Ok (Came o)
+came (Err r) = Err r
+
+-- the record of what was done, if anything was
+abbrev pub record_of : Answer → List Record
+record_of (Ok (Done e)) = e ∷ []
+record_of (Ok (Gave to n a p)) = []
+record_of (Ok Nothing) = []
+record_of (Ok (Passed r)) = []
+record_of (Err r) = []
+
+-- what a station is asked or told, and what it answers, writes and says
+abbrev pub says : Input → Answer → List Record → List Message → Play
+says i a es ms = happens (Call i) (came a) es ms
+
+-- what it is asked, and what it answers; it writes the record of what was done, if anything was, and says nothing
+abbrev pub calls : Input → Answer → Play
+calls i a = says i a (record_of a) []
 
 -- ---- that a row holds
 
@@ -46,25 +77,24 @@ on ((a, b) ∷ rs) k = within a b k || on rs k
 abbrev pub every : List ℕ
 every = range_with_len 0 29
 
--- the record of what was done, if anything was
-abbrev pub record_of : Answer → List Record
-record_of (Ok (Done e)) = e ∷ []
-record_of (Ok (Gave to n p)) = []
-record_of (Ok Nothing) = []
-record_of (Ok (Passed r)) = []
-record_of (Err r) = []
+-- who is still to answer
+abbrev pub unheard : Option Inquiry → List StationId
+unheard None = []
+unheard (Some q) = q.order
 
--- what a call is answered, and what the station then has written and said; a refusal changes nothing
-abbrev pub Answers : Table → State → Input → Answer → List Record → List Message → Type 0
-Answers tb s i a es ms = (decided tb s i ≡ a) × (records a ≡ es) × (messages (after tb s a) i a ≡ ms) × OnErr a (after tb s a ≡ s)
+-- what an event is answered, and what the station has written and said then; a refusal changes nothing
+abbrev pub Answers : Table → State → Mind → Event → Response → List Record → List Message → Type 0
+Answers tb s m e r es ms =
+    (resolved tb s m e ≡ r) × (written s r ≡ es) × (spoken tb (lasting tb s r) (minded s m e r) e r ≡ ms)
+    × OnErr r ((lasting tb s r ≡ s) × (minded s m e r ≡ m))
 
--- all of it goes so, from a state on, for train z
-abbrev pub Goes : Table → Train → State → List Play → Type 0
-Goes tb z s [] = Unit {0}
-Goes tb z s (calls i a ∷ ps) = Answers tb s i a (record_of a) [] × Goes tb z (after tb s a) ps
-Goes tb z s (says i a es ms ∷ ps) = Answers tb s i a es ms × Goes tb z (after tb s a) ps
-Goes tb z s (held k rs ∷ ps) = (map (holds (word_at s.words (place s z) k)) every ≡ map (on rs) every) × Goes tb z s ps
-Goes tb z s (tickets xs ∷ ps) = (s.dropped ≡ 0) × (s.tickets ≡ xs) × Goes tb z s ps
+-- all of it goes so, from a state and a mind on, for train z
+abbrev pub Goes : Table → Train → State → Mind → List Play → Type 0
+Goes tb z s m [] = Unit {0}
+Goes tb z s m (happens e r es ms ∷ ps) = Answers tb s m e r es ms × Goes tb z (lasting tb s r) (minded s m e r) ps
+Goes tb z s m (held k rs ∷ ps) = (map (holds (word_at s.words (place s z) k)) every ≡ map (on rs) every) × Goes tb z s m ps
+Goes tb z s m (tickets xs ∷ ps) = (s.dropped ≡ 0) × (s.tickets ≡ xs) × Goes tb z s m ps
+Goes tb z s m (awaits n ks ∷ ps) = (wanted m.inquiry ≡ n) × (unheard m.inquiry ≡ ks) × Goes tb z s m ps
 
 -- a station that begins, and its timetable
 abbrev pub start : Case → State
@@ -75,4 +105,4 @@ table c = put empty c.row
 
 -- each record of the journal fits, and from the state that it makes all goes as the row says
 abbrev pub Right : Case → Type 0
-Right c = (all_fit (table c) (start c) c.journal ≡ true) × Goes (table c) c.row.train (fold (apply (table c)) (start c) c.journal) c.plays
+Right c = (all_fit (table c) (start c) c.journal ≡ true) × Goes (table c) c.row.train (fold (apply (table c)) (start c) c.journal) c.mind c.plays

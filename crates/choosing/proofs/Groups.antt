@@ -1,17 +1,19 @@
 -- The seats of several people. Assumes nothing.
 use Rattle.std.proofs.Common.{◌≡◌, ℕ, zero, suc, ◌+◌, ◌-◌, ◌<◌, ◌≤◌, min, true, false, cond, eqb, ltb, List, [], ◌∷◌, ◌++◌, length, get_or, take, Some, None, Option, sym, refl, ap, ◌∙◌, subst, ⊎_elim, add-one, arith}
-use Rattle.choosing.specs.Choice.{Chosen, Choice, NoneCovers, chosen, drawn, drawn_all, follow, free, group}
-use Rattle.choosing.specs.Laws.{Choices}
+use Rattle.choosing.specs.Choice.{Chosen, Choice, NoneCovers, among, beside, chosen, drawn, drawn_all, follow, free, group}
+use Rattle.choosing.specs.Laws.{Choices, IsLeft}
 use Rattle.choosing.specs.Parties.{below, unused}
+use Rattle.choosing.proofs.Lowest.{lowest_stands}
 use Rattle.choosing.proofs.Rule.{choice_is, choice_one, chosen_cong, uncovered}
 use Rattle.choosing.proofs.Taken.{drawn_here, drawn_other}
 use Rattle.choosing.proofs.Undo.{covers_inside, drawn_without}
-use Rattle.pieces.proofs.Bitwise.{covered_decides, less_uncovered}
+use Rattle.pieces.proofs.Bitwise.{covered_decides, holds_zero, less_uncovered}
+use Rattle.pieces.proofs.Places.{word_set_other}
 use Rattle.pieces.specs.Memory.{covered_all, without, word_at}
 use Rattle.pieces.specs.Stretches.{Covers, covered, less}
 use Rattle.pieces.specs.declared.names.Seat.{Seat}
 use Rattle.std.proofs.lemmas.List.{append-nil}
-use Rattle.std.proofs.lemmas.Bool.{and_parts, cases_eq, lt-ltb, ltb-true}
+use Rattle.std.proofs.lemmas.Bool.{and_parts, cases_eq, cond_both, cond-true, eq-eqb, lt-ltb, ltb-true, ne_eqb, or_from, true≢false}
 use Rattle.std.specs.List.{AllByRecursion}
 
 -- ---- a group, by its first seat
@@ -50,7 +52,7 @@ group_below (suc m) f n a b =
 
 -- ---- how many there are
 
-free_cong : (f g : ℕ → ℕ) (n a b : ℕ) → ((k : ℕ) → k < n → f k ≡ g k) → free f n a b ≡ free g n a b
+pub free_cong : (f g : ℕ → ℕ) (n a b : ℕ) → ((k : ℕ) → k < n → f k ≡ g k) → free f n a b ≡ free g n a b
 unfolding free
 free_cong f g zero a b h = refl
 free_cong f g (suc n) a b h = rw (h n (omega arith), free_cong f g n a b (λ k l. h k (omega arith)))
@@ -96,8 +98,41 @@ each_chosen (suc m) f n a b k =
     by_place s ss c h zero l = c
     by_place s ss c h (suc k) l = h k (omega arith)
 
+-- ---- a seat that is kept back
+
+nothing_covers : (a b : ℕ) → a < b → Covers 0 a b → ⊥
+nothing_covers a b h c = true≢false (sym (c a (omega arith) h) ∙ holds_zero a)
+
+-- a seat of which nothing is held is none of a group's
+group_passes : (m : ℕ) (f : ℕ → ℕ) (n a b s : ℕ) → a < b → f s ≡ 0 → among s (group m f n a b) ≡ false
+unfolding group
+group_passes zero f n a b s h e = refl
+group_passes (suc m) f n a b s h e =
+    by_first (λ ss. among s ss ≡ false) m f n a b (λ _. refl)
+    (λ t c.
+    let apart : s ≡ t.0 → ⊥ = λ q. nothing_covers a b h (subst (λ (w : ℕ). Covers w a b) (sym (ap f q) ∙ e) c.covers) in
+    or_from (eqb t.0 s) (among s (group m (drawn f a b t.0) n a b)) (ne_eqb t.0 s (λ q. apart (sym q)))
+    (group_passes m (drawn f a b t.0) n a b s h (drawn_other f a b t.0 s apart ∙ e)))
+
+pub kept_out : IsLeft
+kept_out m f n a b s h = group_passes m (beside (Some s) f) n a b s.0 h (cond-true (eqb s.0 s.0) 0 (f s.0) (eq-eqb s.0 s.0 refl))
+
+pub beside_cong : (kept : Option Seat) (f g : ℕ → ℕ) (n : ℕ) → ((k : ℕ) → k < n → f k ≡ g k) → (k : ℕ) → k < n → beside kept f k ≡ beside kept g k
+beside_cong None f g n h k l = h k l
+beside_cong (Some s) f g n h k l = ap (λ (w : ℕ). cond (eqb k s.0) 0 w) (h k l)
+
+pub group_beside_cong : (kept : Option Seat) (m : ℕ) (f g : ℕ → ℕ) (n a b : ℕ) → ((k : ℕ) → k < n → f k ≡ g k) → group m (beside kept f) n a b ≡ group m (beside kept g) n a b
+group_beside_cong kept m f g n a b h = group_cong m (beside kept f) (beside kept g) n a b (beside_cong kept f g n h)
+
+pub free_beside_cong : (kept : Option Seat) (f g : ℕ → ℕ) (n a b : ℕ) → ((k : ℕ) → k < n → f k ≡ g k) → free (beside kept f) n a b ≡ free (beside kept g) n a b
+free_beside_cong kept f g n a b h = free_cong (beside kept f) (beside kept g) n a b (beside_cong kept f g n h)
+
 pub choices : Choices
-choices = (λ f n a b. (choice_is f a b n, λ r h. choice_one f a b n r (chosen f n a b) h (choice_is f a b n)), λ m f n a b h. (group_length m f n a b h, λ k l. each_chosen m f n a b k l))
+choices = (
+  λ f n a b. (choice_is f a b n, λ r h. choice_one f a b n r (chosen f n a b) h (choice_is f a b n)),
+  λ m f n a b h. (group_length m f n a b h, λ k l. each_chosen m f n a b k l),
+  (lowest_stands, kept_out),
+)
 
 -- ---- one more
 
@@ -145,6 +180,35 @@ group_covered ws k (suc m) n a b h l =
     let vs = without ws k s.0 a b in
     let same = group_cong m (drawn (word_at ws k) a b s.0) (word_at vs k) n a b (λ t _. drawn_without k a b ws s.0 t (covers_inside ws k s.0 a b l c.covers)) in
     rw (lt-ltb s.0 400 (omega (arith, c.there)), (covered_decides (word_at ws k s.0) a b).1 c.covers, same) (group_covered vs k m n a b h l))
+
+-- the same of words that are those of the memory wherever they cover the span
+covered_like : (ws : List ℕ) (k m : ℕ) (f : ℕ → ℕ) (n a b : ℕ) → n ≤ 400 → a < b → ((t : ℕ) → t < n → Covers (f t) a b → f t ≡ word_at ws k t)
+    → covered_all ws k (group m f n a b) a b ≡ true
+unfolding group
+covered_like ws k zero f n a b h l e = refl
+covered_like ws k (suc m) f n a b h l e =
+    by_first (λ ss. covered_all ws k ss a b ≡ true) m f n a b (λ _. refl)
+    (λ s c.
+    let same : f s.0 ≡ word_at ws k s.0 = e s.0 c.there c.covers in
+    let covers : Covers (word_at ws k s.0) a b = subst (λ (w : ℕ). Covers w a b) same c.covers in
+    let near : s.0 < 400 = omega (arith, c.there) in
+    let rest = λ (t : ℕ) (u : t < n) (d : Covers (drawn f a b s.0 t) a b).
+    ⊎_elim (λ q. absurd (less_uncovered (f t) a b l (subst (λ (w : ℕ). Covers w a b) (drawn_here f a b s.0 t q) d)))
+    (λ q.
+    let o = drawn_other f a b s.0 t q in
+    o ∙ e t u (subst (λ (w : ℕ). Covers w a b) o d) ∙ sym (word_set_other ws k s.0 (less (word_at ws k s.0) a b) k t near (omega arith) (λ p. q p.1)))
+    (cases_eq t s.0) in
+    rw (lt-ltb s.0 400 near, (covered_decides (word_at ws k s.0) a b).1 covers) (covered_like (without ws k s.0 a b) k m (drawn f a b s.0) n a b h l rest))
+
+-- what is chosen beside a seat that is kept back is covered in the memory as it is
+pub group_beside_covered : (ws : List ℕ) (k m n a b : ℕ) (kept : Option Seat) → n ≤ 400 → a < b
+    → covered_all ws k (group m (beside kept (word_at ws k)) n a b) a b ≡ true
+group_beside_covered ws k m n a b kept h l = covered_like ws k m (beside kept (word_at ws k)) n a b h l (like kept)
+  where
+    like : (r : Option Seat) (t : ℕ) → t < n → Covers (beside r (word_at ws k) t) a b → beside r (word_at ws k) t ≡ word_at ws k t
+    like None t u c = refl
+    like (Some s) t u c =
+        cond_both (eqb t s.0) 0 (word_at ws k t) (λ (w : ℕ). Covers w a b → w ≡ word_at ws k t) (λ _ d. absurd (nothing_covers a b l d)) (λ _ _. refl) c
 
 -- ---- parties
 

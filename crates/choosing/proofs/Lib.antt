@@ -1,4 +1,5 @@
 pub mod Groups
+pub mod Lowest
 pub mod Parties
 pub mod Rule
 pub mod Seated

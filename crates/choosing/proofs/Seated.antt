@@ -1,6 +1,6 @@
 -- A party that is given its seats, one person after the other. Assumes nothing.
-use Rattle.std.proofs.Common.{◌≡◌, ℕ, ◌+◌, ◌<◌, ◌≤◌, List, [], ◌∷◌, ◌++◌, length, get_or, take, Some, None, Option, sym, ap, ◌∙◌, arith}
-use Rattle.choosing.specs.Choice.{chosen, drawn_all, group}
+use Rattle.std.proofs.Common.{◌≡◌, ℕ, ◌+◌, ◌<◌, ◌≤◌, eqb, List, [], ◌∷◌, ◌++◌, length, get_or, set, take, Some, None, Option, sym, ap, ◌∙◌, ⊎_elim, arith}
+use Rattle.choosing.specs.Choice.{beside, chosen, drawn_all, group}
 use Rattle.choosing.specs.Parties.{party_of, seats_of}
 use Rattle.choosing.specs.declared.party.Party.{Party}
 use Rattle.choosing.proofs.Groups.{group_cong, group_ends, group_more}
@@ -8,7 +8,8 @@ use Rattle.choosing.proofs.Parties.{party_seats}
 use Rattle.pieces.specs.declared.names.Seat.{Seat}
 use Rattle.pieces.specs.declared.names.Train.{Train}
 use Rattle.pieces.specs.declared.trip.Trip.{Trip}
-use Rattle.std.proofs.lemmas.List.{length_push, length-take-le, get_or-take}
+use Rattle.std.proofs.lemmas.Bool.{cases_eq, cond-true, cond-false, eq-eqb, ne_eqb}
+use Rattle.std.proofs.lemmas.List.{length_push, length-take-le, get_or-set_same, get_or-set_other, get_or-take}
 
 -- k people have a seat each, by the rule
 abbrev pub Seated : (z : Train) (t : Trip) (f : ℕ → ℕ) (n k : ℕ) → Party → Type 0
@@ -41,3 +42,17 @@ pub group_first : (xs : List ℕ) (f : ℕ → ℕ) (m n a b : ℕ) → n ≤ le
     → group m (λ (i : ℕ). get_or (take n xs) i 0) (length (take n xs)) a b ≡ group m f n a b
 group_first xs f m n a b h e =
     rw (length-take-le n xs h) (group_cong m (λ (i : ℕ). get_or (take n xs) i 0) f n a b (λ s l. get_or-take n xs s 0 l ∙ e s l))
+
+-- a train's words with nothing held of a seat that is kept back
+abbrev pub put_aside : Option Seat → List ℕ → List ℕ
+put_aside None xs = xs
+put_aside (Some s) xs = set xs s.0 0
+
+pub aside_each : (kept : Option Seat) (xs : List ℕ) (f : ℕ → ℕ) (n : ℕ) → n ≤ length xs → ((k : ℕ) → k < n → get_or xs k 0 ≡ f k)
+    → (k : ℕ) → k < n → get_or (put_aside kept xs) k 0 ≡ beside kept f k
+aside_each None xs f n h e k l = e k l
+aside_each (Some s) xs f n h e k l =
+    ⊎_elim
+    (λ q. rw q (get_or-set_same xs s.0 0 0 (omega arith)) ∙ sym (cond-true (eqb k s.0) 0 (f k) (eq-eqb k s.0 q)))
+    (λ q. get_or-set_other xs s.0 k 0 0 q ∙ e k l ∙ sym (cond-false (eqb k s.0) 0 (f k) (ne_eqb k s.0 q)))
+    (cases_eq k s.0)

@@ -1,5 +1,6 @@
 -- Which seat is taken for the span from stop a to stop b. The words of a train's n seats are a function from seats to words.
 use Rattle.std.specs.Prelude.{◌≡◌, ℕ, zero, suc, ◌+◌, ◌<◌, Bool, false, cond, ◌||◌, ◌⊎◌, List, [], ◌∷◌, Some, None, Option, ◌==◌, ◌≢◌, nat_lt}
+use Rattle.std.specs.Option.{option_or}
 use Rattle.pieces.specs.Stretches.{Covers, covered, less, spare}
 use Rattle.pieces.specs.declared.names.Seat.{Seat}
 
@@ -61,3 +62,15 @@ group (suc m) f n a b = follow (chosen f n a b) (λ s. s ∷ group m (drawn f a 
 unfoldable pub free : (ℕ → ℕ) → (n a b : ℕ) → ℕ
 free f zero a b = 0
 free f (suc n) a b = cond (covered (f n) a b) 1 0 + free f n a b
+
+-- ---- kept back
+
+-- the lowest of n seats of which anything is held, if there is one
+unfoldable pub lowest : (ℕ → ℕ) → (n : ℕ) → Option Seat
+lowest f zero = None
+lowest f (suc n) = option_or (lowest f n) (cond (f n == 0) None (Some (record { 0 = n })))
+
+-- the words when nothing is held of a seat that is kept back
+abbrev pub beside : Option Seat → (ℕ → ℕ) → ℕ → ℕ
+beside None f k = f k
+beside (Some s) f k = cond (k == s.0) 0 (f k)

@@ -1,6 +1,6 @@
 -- What the calls on a station's channels come to: `me` is the station's own number, `cs` its channels before the call.
 use Rattle.std.specs.Prelude.{ℕ, ◌+◌, ◌-◌, min, Bool, cond, ◌&&◌, List, Ok, Err, Result, ◌==◌, nat_le, slice_set}
-use Rattle.giving.specs.Channels.{Chan, gave, heard_to, took, all_waiting, numbered, news, roomy, line, other}
+use Rattle.giving.specs.Channels.{Chan, gave, declined, heard_to, took, all_waiting, numbered, news, roomy, line, other}
 use Rattle.giving.specs.declared.ids.Number.{Number}
 use Rattle.giving.specs.declared.refusal.Refusal.{Refusal}
 use Rattle.giving.specs.declared.refusal.Refusal.TheVariants.{Malformed, OutOfTurn, Full, NoSuchStation}
@@ -22,12 +22,19 @@ givable cs k = roomy cs && numbered (line cs k)
 abbrev pub room : List Chan → ℕ → ℕ
 room cs k = min (4096 - all_waiting cs) (4294967295 - (line cs k).given)
 
--- a piece is given to station k
+-- a piece is given to station k, for ask a
 abbrev pub gives : ℕ → List Chan → ℕ → Result Number Refusal
 gives me cs k = unless (givable cs k) Full (unless (other me cs k) NoSuchStation (Ok (next_number cs k)))
 
-abbrev pub after_give : ℕ → List Chan → ℕ → Piece → List Chan
-after_give me cs k p = cond (givable cs k && other me cs k) (slice_set cs k (gave (line cs k) p)) cs
+abbrev pub after_give : ℕ → List Chan → ℕ → ℕ → Piece → List Chan
+after_give me cs k a p = cond (givable cs k && other me cs k) (slice_set cs k (gave (line cs k) a p)) cs
+
+-- an ask of station k is answered with nothing
+abbrev pub declines : ℕ → List Chan → ℕ → Result Unit Refusal
+declines me cs k = unless (other me cs k) NoSuchStation (Ok tt)
+
+abbrev pub after_decline : ℕ → List Chan → ℕ → ℕ → List Chan
+after_decline me cs k a = cond (other me cs k) (slice_set cs k (declined (line cs k) a)) cs
 
 -- station k has taken all up to number n
 abbrev pub hears : ℕ → List Chan → ℕ → ℕ → Result Bool Refusal

@@ -10,29 +10,38 @@ pub record Chan : Type 0 where
   pub given : ℕ
   pub heard : ℕ
   pub taken : ℕ
+  pub answered : ℕ
   pub waiting : List Piece
 
 abbrev pub chan : Channel → Chan
-chan c = record { given = c.given.0; heard = c.heard.0; taken = c.taken.0; waiting = deque_items c.waiting }
+chan c = record { given = c.given.0; heard = c.heard.0; taken = c.taken.0; answered = c.answered.0; waiting = deque_items c.waiting }
 
 abbrev pub fresh : Chan
-fresh = record { given = 0; heard = 0; taken = 0; waiting = [] }
+fresh = record { given = 0; heard = 0; taken = 0; answered = 0; waiting = [] }
 
--- the next number is used for a piece, which then waits
-abbrev pub gave : Chan → Piece → Chan
-gave c p = record { given = c.given + 1; heard = c.heard; taken = c.taken; waiting = c.waiting ++ p ∷ [] }
+-- the next number is used for a piece, which then waits; it is given for ask a, or for none where that is 0
+abbrev pub gave : Chan → ℕ → Piece → Chan
+gave c a p = record c { given = c.given + 1; answered = max c.answered a; waiting = c.waiting ++ p ∷ [] }
+
+-- an ask is answered, with nothing
+abbrev pub declined : Chan → ℕ → Chan
+declined c a = record c { answered = a }
 
 -- the other station has taken all up to a number
 abbrev pub heard_to : Chan → ℕ → Chan
-heard_to c n = record { given = c.given; heard = max c.heard n; taken = c.taken; waiting = drop (n - c.heard) c.waiting }
+heard_to c n = record c { heard = max c.heard n; waiting = drop (n - c.heard) c.waiting }
 
 -- the other station's next number is taken
 abbrev pub took : Chan → Chan
-took c = record { given = c.given; heard = c.heard; taken = c.taken + 1; waiting = c.waiting }
+took c = record c { taken = c.taken + 1 }
 
 -- a number is left
 abbrev pub numbered : Chan → Bool
 numbered c = nat_lt c.given 4294967295
+
+-- the ask is later than all that were answered
+abbrev pub unanswered : Chan → ℕ → Bool
+unanswered c a = nat_lt c.answered a
 
 -- the number was given, and is not yet acknowledged
 abbrev pub news : Chan → ℕ → Bool

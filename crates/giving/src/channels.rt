@@ -1,5 +1,5 @@
 // The channels of a station to all stations, and how many pieces wait in them together.
-ghost use Rattle.std.specs.Prelude.{◌≡◌, ◌≤◌, map};
+ghost use Rattle.std.specs.Prelude.{◌≡◌, ◌≤◌, map, vec_len};
 ghost use Rattle.giving.specs.Channels.{chan, all_waiting};
 
 use crate::channel::Channel;
@@ -15,4 +15,5 @@ pub struct Channels {
     waiting: usize,
     ghost counted: { waiting ≡ all_waiting (map chan lines.items) },
     ghost few: { waiting ≤ 4096 },
+    ghost near: { vec_len lines ≤ 256 },
 }

@@ -3,6 +3,7 @@
 use Rattle.std.proofs.Common.{◌≡◌, ℕ, suc, ◌+◌, ◌<◌, ◌≤◌, true, List, [], ◌∷◌, ◌++◌, map, length, get_or, drop, fold, sym, refl, ap, ◌∙◌, subst, append_assoc, append-nil, arith}
 use Rattle.choosing.specs.Parties.{pieces_of, seats_of}
 use Rattle.choosing.specs.declared.party.Party.{Party}
+use Rattle.giving.specs.declared.ids.Ask.{Ask}
 use Rattle.giving.specs.declared.ids.StationId.{StationId}
 use Rattle.giving.specs.declared.message.Body.TheVariants as body
 use Rattle.giving.specs.declared.message.Message.{Message}
@@ -18,13 +19,13 @@ use Rattle.std.proofs.lemmas.Bool.{and_parts}
 use Rattle.timetable.specs.Rows.{Table}
 use Rattle.std.proofs.lemmas.List.{at_drop_more, at_drop_all, length-map}
 
-length_gifts : (to : StationId) (n : ℕ) (ps : List Piece) → length (gifts to n ps) ≡ length ps
-length_gifts to n [] = refl
-length_gifts to n (p ∷ ps) = ap suc (length_gifts to (suc n) ps)
+length_gifts : (to : StationId) (a : Ask) (n : ℕ) (ps : List Piece) → length (gifts to a n ps) ≡ length ps
+length_gifts to a n [] = refl
+length_gifts to a n (p ∷ ps) = ap suc (length_gifts to a (suc n) ps)
 
 -- a record for each seat of a party
-pub gifts_count : (to : StationId) (n : ℕ) (p : Party) → length (gifts to n (pieces_of p)) ≡ length (seats_of p)
-gifts_count to n p = length_gifts to n (pieces_of p) ∙ length-map (seats_of p) (λ (s : Seat). piece_of p.train s p.trip)
+pub gifts_count : (to : StationId) (a : Ask) (n : ℕ) (p : Party) → length (gifts to a n (pieces_of p)) ≡ length (seats_of p)
+gifts_count to a n p = length_gifts to a n (pieces_of p) ∙ length-map (seats_of p) (λ (s : Seat). piece_of p.train s p.trip)
 
 -- the pieces of a party from the place k on
 abbrev rest : Party → (k : ℕ) → List Piece
@@ -51,17 +52,17 @@ module _ (p : Party) (k : ℕ) (ss : List Seat) (is : ss ≡ seats_of p) where
 
 -- ---- the records
 
-abbrev pub ahead : StationId → (n : ℕ) → Party → (k : ℕ) → List Record
-ahead to n p k = gifts to (n + k) (rest p k)
+abbrev pub ahead : StationId → Ask → (n : ℕ) → Party → (k : ℕ) → List Record
+ahead to a n p k = gifts to a (n + k) (rest p k)
 
-module _ (to : StationId) (n : ℕ) (p : Party) (k : ℕ) (ss : List Seat) (is : ss ≡ seats_of p) where
-  pub ahead_more : (d : Seat) (q : Piece) → q ≡ piece_of p.train (get_or ss k d) p.trip → k < length ss → ahead to n p k ≡ Given to (record { 0 = n + k }) q ∷ ahead to n p (k + 1)
+module _ (to : StationId) (a : Ask) (n : ℕ) (p : Party) (k : ℕ) (ss : List Seat) (is : ss ≡ seats_of p) where
+  pub ahead_more : (d : Seat) (q : Piece) → q ≡ piece_of p.train (get_or ss k d) p.trip → k < length ss → ahead to a n p k ≡ Given to (record { 0 = n + k }) a q ∷ ahead to a n p (k + 1)
   ahead_more d q e h =
       let f : suc (n + k) ≡ n + (k + 1) = omega arith in
-      rest_more p k ss is (gifts to (n + k)) d q e h ∙ ap (λ (m : ℕ). Given to (record { 0 = n + k }) q ∷ gifts to m (rest p (k + 1))) f
+      rest_more p k ss is (gifts to a (n + k)) d q e h ∙ ap (λ (m : ℕ). Given to (record { 0 = n + k }) a q ∷ gifts to a m (rest p (k + 1))) f
 
-  pub ahead_none : length ss ≤ k → ahead to n p k ≡ []
-  ahead_none h = rest_none p k ss is (gifts to (n + k)) h
+  pub ahead_none : length ss ≤ k → ahead to a n p k ≡ []
+  ahead_none h = rest_none p k ss is (gifts to a (n + k)) h
 
 -- ---- the messages
 

@@ -13,6 +13,6 @@ use Rattle.std.specs.declared.alloc.Global.{Global}
 -- where the journal had no room for the records, they could not be written
 pub unwritten_by : (s : Station) (j : Vec Record Global) (o : Outcome) (k : ℕ) → k ≡ length (entries o) → vec_len j ≤ vec_capacity j → vec_capacity j < vec_len j + k → Unwritten s j o
 unwritten_by s j (Done e) k h l f = inr (omega arith)
-unwritten_by s j (Gave to n p) k h l f = let g = gifts_count to n.0 p in omega arith
+unwritten_by s j (Gave to n a p) k h l f = let g = gifts_count to a n.0 p in omega arith
 unwritten_by s j Nothing k h l f = absurd (omega arith)
 unwritten_by s j (Passed r) k h l f = absurd (omega arith)

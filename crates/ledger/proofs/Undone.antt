@@ -13,7 +13,7 @@ use Rattle.ledger.specs.Laws.{SellsBack}
 use Rattle.ledger.specs.declared.input.Input.TheVariants.{Sell, Undo}
 use Rattle.ledger.specs.declared.input.Outcome.TheVariants.{Done}
 use Rattle.state.proofs.Same.{same_state}
-use Rattle.state.specs.Changes.{all_fit, apply, fits, holds_all, listed_all, returnable, returned, with_tickets}
+use Rattle.state.specs.Changes.{all_fit, apply, fits, holds_all, listed_all, returnable, returned, with_sold, with_tickets}
 use Rattle.state.specs.States.{State, is_open, place, sold, ticket_of, tickets_left}
 use Rattle.state.specs.declared.record.Record.TheVariants.{Sold, Undone}
 use Rattle.std.proofs.lemmas.Bool.{and_parts, and_from, eqb-true, lt-ltb}
@@ -55,12 +55,12 @@ module _ (tb : Table) (s : State) (n : Ticket) (p : Party) (f : fits tb s (Sold 
       ap (λ (y : Option Party). unless (returnable tb next y) NoSuchTicket (Ok (Done (Undone n)))) ticket
       ∙ ap (λ (b : Bool). unless b NoSuchTicket (Ok (Done (Undone n)))) (and_from _ _ l o)
 
-  back : apply tb next (Undone n) ≡ with_tickets s (s.tickets ++ None ∷ [])
+  back : apply tb next (Undone n) ≡ with_sold (with_tickets s (s.tickets ++ None ∷ [])) p.train
   back =
       let (_, _, h, _) = grounds in
       ap (λ (y : Option Party). with_tickets (returned y next) (set (s.tickets ++ Some p ∷ []) (n.0 - 1 - s.dropped) None)) ticket
-      ∙ same_state _ _ refl refl (put_back_all s.words (place s p.train) (seats_of p) p.trip.from.0 p.trip.to.0 p.trip.ordered h) refl refl
-      (ap (λ (k : ℕ). set (s.tickets ++ Some p ∷ []) k None) at ∙ set_last s.tickets (Some p) None) refl
+      ∙ same_state _ _ refl refl (put_back_all s.words (place s p.train) (seats_of p) p.trip.from.0 p.trip.to.0 p.trip.ordered h) refl refl refl
+      (ap (λ (k : ℕ). set (s.tickets ++ Some p ∷ []) k None) at ∙ set_last s.tickets (Some p) None) refl refl
 
 pub sells_back : SellsBack
 sells_back tb s d n p h =

@@ -15,7 +15,7 @@ use crate::decide::{decide, decide_open};
 use crate::input::{Input, Outcome};
 use crate::reply::{said_count, say};
 use choosing::party::Party;
-use giving::ids::{Number, StationId};
+use giving::ids::{Ask, Number, StationId};
 use giving::message::Message;
 use giving::refusal::Refusal;
 use pieces::piece::Piece;
@@ -27,6 +27,7 @@ use timetable::timetable::Timetable;
 // Finds the memory for what is said.
 fn make_room(out: &mut Vec<Message>, count: usize) -> Result<(), Refusal>
     ensures same { out.new.items ≡ out.old.items }
+    ensures capacity { vec_capacity out.old ≤ vec_capacity out.new }
     ensures cases { MatchResult result (λ _. vec_len out.new + count ≤ vec_capacity out.new) (λ e. (e ≡ Memory) × Filled out.old count) }
 {
     out.reserve(count)?;
@@ -39,7 +40,7 @@ fn record_count(outcome: Outcome) -> usize
 {
     match outcome {
         Outcome::Done(_) => 1,
-        Outcome::Gave(_, _, party) => party.len(),
+        Outcome::Gave(_, _, _, party) => party.len(),
         _ => 0,
     }
 }
@@ -81,18 +82,24 @@ fn write_gifts(
     journal: &mut Vec<Record>,
     to: StationId,
     first: Number,
+    ask: Ask,
     party: &Party,
 )
-    requires fits { all_fit (rows_of table.now) (view station.old) (gifts to first.0 (pieces_of party.now)) ≡ true }
+    requires fits { all_fit (rows_of table.now) (view station.old) (gifts to ask first.0 (pieces_of party.now)) ≡ true }
     requires room { vec_len journal.old + length (seats_of party.now) ≤ vec_capacity journal.old }
     requires numbered { first.0 + length (seats_of party.now) ≤ 4294967296 }
-    ensures state { view station.new ≡ fold (apply (rows_of table.now)) (view station.old) (gifts to first.0 (pieces_of party.now)) }
-    ensures written { journal.new.items ≡ journal.old.items ++ gifts to first.0 (pieces_of party.now) }
+    ensures state { view station.new ≡ fold (apply (rows_of table.now)) (view station.old) (gifts to ask first.0 (pieces_of party.now)) }
+    ensures written { journal.new.items ≡ journal.old.items ++ gifts to ask first.0 (pieces_of party.now) }
 {
     for (k, seat) in party.seats().iter().enumerate() {
         let piece = Piece::new(party.train, *seat, party.trip);
         let number = Number(first.0 + k as u32);
-        write(station, table, journal, Record::Given(to, number, piece));
+        write(
+            station,
+            table,
+            journal,
+            Record::Given(to, number, ask, piece),
+        );
     }
 }
 
@@ -107,7 +114,9 @@ fn settle(station: &mut Station, table: &Timetable, journal: &mut Vec<Record>, o
 {
     match outcome {
         Outcome::Done(entry) => write(station, table, journal, entry),
-        Outcome::Gave(to, first, party) => write_gifts(station, table, journal, to, first, &party),
+        Outcome::Gave(to, first, ask, party) => {
+            write_gifts(station, table, journal, to, first, ask, &party);
+        }
         Outcome::Nothing | Outcome::Passed(_) => {}
     }
 }
@@ -123,6 +132,7 @@ pub fn call(
     ensures state { view station.new ≡ after (rows_of table.now) (view station.old) result }
     ensures written { journal.new.items ≡ journal.old.items ++ records result }
     ensures said { out.new.items ≡ out.old.items ++ messages (view station.new) input result }
+    ensures capacity { vec_capacity out.old ≤ vec_capacity out.new }
     ensures answer { for_memory result ≡ false → result ≡ decided (rows_of table.now) (view station.old) input }
     ensures memory { for_memory result ≡ true → Short station.old journal.old out.old input (decided (rows_of table.now) (view station.old) input) }
 {

@@ -1,16 +1,18 @@
 // What each call comes to, by the state and the timetable alone. Nothing is changed here.
-ghost use Rattle.std.specs.Prelude.{◌≡◌, ◌≤◌, true, IfOk};
-ghost use Rattle.ledger.specs.Decisions.{decided, decided_open, judged};
-ghost use Rattle.ledger.specs.declared.input.Input.TheVariants.{Close, Sell, Undo, Give, Take, Hear};
+ghost use Rattle.std.specs.Prelude.{◌≡◌, ◌≤◌, true, IfOk, Some};
+ghost use Rattle.ledger.specs.Decisions.{decided, decided_open, granting, judged};
+ghost use Rattle.ledger.specs.declared.input.Input.TheVariants.{Close, Sell, Undo, Give, Take, Hear, Grant};
+ghost use Rattle.ledger.specs.declared.input.Input.TheVariants as asked;
 ghost use Rattle.state.specs.Changes.{listed_all};
 ghost use Rattle.state.specs.States.{is_open};
 ghost use Rattle.state.specs.Views.{view};
 ghost use Rattle.timetable.specs.Tables.{table as rows_of};
 
-use crate::input::{Demand, Input, Outcome};
+use crate::input::{Input, Outcome};
 use choosing::party::{MOST, Party};
-use giving::ids::{Number, StationId, Ticket};
+use giving::ids::{Ask, Number, StationId, Ticket};
 use giving::refusal::Refusal;
+use pieces::demand::Demand;
 use pieces::names::Train;
 use pieces::piece::Piece;
 use pieces::trip::Trip;
@@ -103,7 +105,73 @@ fn decide_give(
     }
     let count = u32::from(demand.people).min(channels.room(to)) as u8;
     let party = station.choose(demand.train, row.seats, trip, count);
-    Ok(Outcome::Gave(to, channels.next_number(to), party))
+    Ok(Outcome::Gave(to, channels.next_number(to), Ask(0), party))
+}
+
+// Others are asked under the next number.
+fn decide_ask(station: &Station, table: &Timetable, demand: Demand) -> Result<Outcome, Refusal>
+    ensures { result ≡ decided (rows_of table.now) (view station.now) (asked.Ask demand) }
+{
+    judge(station, table, demand)?;
+    if !station.asks_left() {
+        return Err(Refusal::Full);
+    }
+    if station.stations() <= 1 {
+        return Err(Refusal::NoSuchStation);
+    }
+    Ok(Outcome::Done(Record::Asked(Ask(station.asked().0 + 1))))
+}
+
+// For an ask as many seats are given as there are beside the kept one, and as may wait; or it is answered with none.
+fn grant(
+    station: &Station,
+    from: StationId,
+    ask: Ask,
+    demand: Demand,
+    row: Row,
+    trip: Trip,
+) -> Result<Outcome, Refusal>
+    requires { (is_open (view station.now) demand.train ≡ true) × (demand.people ≤ 8) }
+    ensures { result ≡ granting (view station.now) from ask demand (Some (row, trip)) }
+{
+    let channels = station.channels();
+    if !channels.is_roomy() || !channels.is_numbered(from) {
+        return Err(Refusal::Full);
+    }
+    let count = u32::from(demand.people).min(channels.room(from)) as u8;
+    let party = station.choose_beside(demand.train, row.seats, trip, count);
+    if party.len() == 0 {
+        return Ok(Outcome::Done(Record::Declined(from, ask)));
+    }
+    Ok(Outcome::Gave(from, channels.next_number(from), ask, party))
+}
+
+// An ask is answered if it is later than all of that station's that were, and passed over if it is not.
+fn decide_grant(
+    station: &Station,
+    table: &Timetable,
+    from: StationId,
+    ask: Ask,
+    demand: Demand,
+) -> Result<Outcome, Refusal>
+    ensures { result ≡ decided (rows_of table.now) (view station.now) (Grant from ask demand) }
+{
+    let judged = match judge(station, table, demand) {
+        Ok(found) => Some(found),
+        Err(Refusal::NotOpen) => None,
+        Err(refusal) => return Err(refusal),
+    };
+    let channels = station.channels();
+    if !channels.is_other(from) {
+        return Err(Refusal::NoSuchStation);
+    }
+    if !channels.is_unanswered(from, ask) {
+        return Ok(Outcome::Nothing);
+    }
+    match judged {
+        Some((row, trip)) => grant(station, from, ask, demand, row, trip),
+        None => Ok(Outcome::Done(Record::Declined(from, ask))),
+    }
 }
 
 // A piece is taken if it has the other station's next number.
@@ -164,6 +232,8 @@ pub fn decide(station: &Station, table: &Timetable, input: Input) -> Result<Outc
         Input::Give(to, demand) => decide_give(station, table, to, demand),
         Input::Take(from, number, piece) => decide_take(station, table, from, number, piece),
         Input::Hear(from, number) => decide_hear(station, table, from, number),
+        Input::Ask(demand) => decide_ask(station, table, demand),
+        Input::Grant(from, ask, demand) => decide_grant(station, table, from, ask, demand),
     }
 }
 

@@ -9,13 +9,15 @@ use Rattle.choosing.specs.Parties.{pieces_of, party_of, seats_of, some as some_p
 use Rattle.choosing.specs.declared.party.Party.{Party}
 use Rattle.giving.specs.Calls.{next_number, room}
 use Rattle.giving.specs.Channels.{all_waiting, line, other}
+use Rattle.giving.specs.declared.ids.Ask.{Ask}
 use Rattle.giving.specs.declared.ids.Number.{Number}
 use Rattle.giving.specs.declared.ids.StationId.{StationId}
 use Rattle.giving.specs.declared.ids.Ticket.{Ticket}
 use Rattle.giving.specs.declared.refusal.Refusal.TheVariants.{Malformed, NotOpen, NothingHeld}
-use Rattle.ledger.specs.Decisions.{Answer, after, decided, judged, judging, messages, offering, records, selling, gifts, met}
+use Rattle.ledger.specs.Decisions.{Answer, after, decided, judged, judging, messages, offering, records, selling, gifts, met, unasked}
 use Rattle.ledger.proofs.Decided.{outcome_fits}
-use Rattle.ledger.specs.declared.input.Demand.{Demand}
+use Rattle.pieces.specs.declared.demand.Demand.{Demand}
+use Rattle.ledger.specs.declared.input.Input.{Input}
 use Rattle.ledger.specs.declared.input.Input.TheVariants.{Sell, Give}
 use Rattle.ledger.specs.declared.input.Outcome.TheVariants.{Done, Gave}
 use Rattle.network.proofs.Count.{count_nil, count_cons}
@@ -27,7 +29,7 @@ use Rattle.network.proofs.Moves.{sound_next}
 use Rattle.network.proofs.Once.{somewhere}
 use Rattle.network.proofs.Stock.{stock}
 use Rattle.network.proofs.Sum.{sum_has}
-use Rattle.network.specs.Answers.{HasStop, Wanted, words_of, covering, Seated, Splits, SaleAnswer, GiftAnswer}
+use Rattle.network.specs.Answers.{HasStop, Wanted, words_of, covering, Seated, SeatedOf, Splits, SaleAnswer, GiftAnswer}
 use Rattle.network.specs.Places.{count_in}
 use Rattle.network.specs.Promises.{SellsAlone, Sells, Gives}
 use Rattle.network.specs.Worlds.{World, state, Reach}
@@ -83,7 +85,7 @@ module _ (f : ℕ → ℕ) (a b : ℕ) where
       none false e g = refl
 
 -- what is taken out of some seats makes no other cover the span
-drawn_covers : (f : ℕ → ℕ) (a b : ℕ) (ss : List Seat) (k : ℕ) → a < b → Covers (drawn_all f a b ss k) a b → Covers (f k) a b
+pub drawn_covers : (f : ℕ → ℕ) (a b : ℕ) (ss : List Seat) (k : ℕ) → a < b → Covers (drawn_all f a b ss k) a b → Covers (f k) a b
 drawn_covers f a b ss k l c = subst (λ (w : ℕ). Covers w a b) (kept_word ss f a b k (not_taken ss f a b k l c)) c
 
 -- the choice among the first n is the choice among more, of which the others do not cover the span
@@ -115,20 +117,22 @@ module _ (n : ℕ) (tb : Table) (w : World) (ok : Intact n tb w) (i : ℕ) (l : 
       same : (q : Row) → Some r ≡ Some q → r ≡ q
       same q h = cc
 
-  pub counts : (r : Row) → tb z.0 ≡ Some r → free (words_of here z) 400 a b ≡ free (words_of here z) r.seats a b
-  counts r e = free_same (words_of here z) a b 400 r.seats r.few (none_past r e)
+  -- the same of words that cover it only where those do
+  module _ (g : ℕ → ℕ) (like : (k : ℕ) → k < 400 → Covers (g k) a b → Covers (words_of here z k) a b) (r : Row) (e : tb z.0 ≡ Some r) where
+    pub counts : free g 400 a b ≡ free g r.seats a b
+    counts = free_same g a b 400 r.seats r.few (λ k h u c. none_past r e k h u (like k u c))
 
-  pub wider : (r : Row) → tb z.0 ≡ Some r → (ss : List Seat) (s : Seat) → Chosen (drawn_all (words_of here z) a b ss) r.seats a b (Some s) → Chosen (drawn_all (words_of here z) a b ss) 400 a b (Some s)
-  wider r e ss s c = chosen_wider (drawn_all (words_of here z) a b ss) r.seats 400 a b s r.few (λ k g u v. none_past r e k g u (drawn_covers (words_of here z) a b ss k o v)) c
+    pub wider : (ss : List Seat) (s : Seat) → Chosen (drawn_all g a b ss) r.seats a b (Some s) → Chosen (drawn_all g a b ss) 400 a b (Some s)
+    wider ss s c = chosen_wider (drawn_all g a b ss) r.seats 400 a b s r.few (λ k h u v. none_past r e k h u (like k u (drawn_covers g a b ss k o v))) c
 
 -- ---- what is judged of a demand
 
-abbrev way : (d : Demand) → d.from.0 < d.to.0 → d.to.0 < 30 → Trip
+abbrev pub way : (d : Demand) → d.from.0 < d.to.0 → d.to.0 < 30 → Trip
 way d o near = record { from = d.from; to = d.to; ordered = o; near = near }
 
 module _ (tb : Table) (x : State) (known : (t : Train) → is_open x t ≡ true → is_some (tb t.0) ≡ true) (d : Demand) where
   -- it is wrong, or of a train that is not open, or there is a row and a trip to look for seats for
-  data Judged : Type 0 where
+  pub data Judged : Type 0 where
     wrong : (Wanted (tb d.train.0) d → ⊥) → judged tb x d ≡ Err Malformed → Judged
     closed : Wanted (tb d.train.0) d → is_open x d.train ≡ false → judged tb x d ≡ Err NotOpen → Judged
     right : (h : Wanted (tb d.train.0) d) → is_open x d.train ≡ true → (r : Row) → tb d.train.0 ≡ Some r → (low : d.to.0 < 30) → judged tb x d ≡ Ok (r, way d h.ordered low) → Judged
@@ -140,7 +144,7 @@ module _ (tb : Table) (x : State) (known : (t : Train) → is_open x t ≡ true 
   no_trip : ((d.from.0 < d.to.0) × (d.to.0 < 30) → ⊥) → judged tb x d ≡ Err Malformed
   no_trip h = ap (λ v. judging (tb d.train.0) v d.people (is_open x d.train)) (trip_none d.from d.to h)
 
-  judges : Judged
+  pub judges : Judged
   judges = go (cases_lt d.from.0 d.to.0) (cases_lt d.to.0 30) (cases_lt 0 d.people) (cases_lt 8 d.people)
     where
       go : (d.from.0 < d.to.0) ⊎ (d.to.0 ≤ d.from.0) → (d.to.0 < 30) ⊎ (30 ≤ d.to.0) → (0 < d.people) ⊎ (d.people ≤ 0) → (8 < d.people) ⊎ (d.people ≤ 8) → Judged
@@ -178,16 +182,41 @@ module _ (tb : Table) (x : State) (known : (t : Train) → is_open x t ≡ true 
 
 -- ---- what is left when pieces are given, one after the other
 
-module _ (t : Train) (s u : ℕ) (l : s < 400) (tb : Table) (to : StationId) where
-  gifts_out : (ps : List Piece) (x : State) (m : ℕ) → Sound x → all_fit tb x (gifts to m ps) ≡ true → in_word t s u l x ≡ in_word t s u l (fold (apply tb) x (gifts to m ps)) + count_in t s u ps
+module _ (t : Train) (s u : ℕ) (l : s < 400) (tb : Table) (to : StationId) (b : Ask) where
+  gifts_out : (ps : List Piece) (x : State) (m : ℕ) → Sound x → all_fit tb x (gifts to b m ps) ≡ true → in_word t s u l x ≡ in_word t s u l (fold (apply tb) x (gifts to b m ps)) + count_in t s u ps
   gifts_out [] x m sound f = omega (arith, count_nil t s u)
   gifts_out (p ∷ ps) x m sound f =
-      let e = Given to (record { 0 = m }) p in
-      let (a, b) = and_parts (fits tb x e) (all_fit tb (apply tb x e) (gifts to (suc m) ps)) f in
-      let g = fits_given tb x to _ p a in
-      omega (arith, in_out t s u l x p sound g.«open» (listed_seat (tb p.train.0) p g.listed) g.held, gifts_out ps (apply tb x e) (suc m) (sound_next tb x e a sound) b, count_cons t s u p ps)
+      let e = Given to (record { 0 = m }) b p in
+      let (a, c) = and_parts (fits tb x e) (all_fit tb (apply tb x e) (gifts to b (suc m) ps)) f in
+      let g = fits_given tb x to _ b p a in
+      omega (arith, in_out t s u l x p sound g.«open» (listed_seat (tb p.train.0) p g.listed) g.held, gifts_out ps (apply tb x e) (suc m) (sound_next tb x e a sound) c, count_cons t s u p ps)
 
 -- ---- what there is for it
+
+-- the seats that are chosen of words f, which cover the trip only where those of what is held do
+module _ (n : ℕ) (tb : Table) (w : World) (ok : Intact n tb w) (i : ℕ) (l : i < n) (d : Demand) (o : d.from.0 < d.to.0) (r : Row) (is : tb d.train.0 ≡ Some r) (f : ℕ → ℕ)
+    (like : (k : ℕ) → k < 400 → Covers (f k) d.from.0 d.to.0 → Covers (words_of (state n tb w i) d.train k) d.from.0 d.to.0) where
+  abbrev pub chosen_of : ℕ → List Seat
+  chosen_of m = group m f r.seats d.from.0 d.to.0
+
+  pub many_of : (m : ℕ) → length (chosen_of m) ≡ min m (free f 400 d.from.0 d.to.0)
+  many_of m = group_length m f r.seats d.from.0 d.to.0 o ∙ ap (min m) (sym (counts n tb w ok i l d.train d.from.0 d.to.0 o f like r is))
+
+  pub seated_of : (m : ℕ) → m ≤ 8 → (near : d.to.0 < 30) → SeatedOf f d (min m (free f 400 d.from.0 d.to.0)) (party_of d.train (way d o near) (chosen_of m))
+  seated_of m few near =
+      record {
+        train = refl;
+        from = refl;
+        to = refl;
+        all = ap length all ∙ many_of m;
+        each = λ k u. rw all
+            (wider n tb w ok i l d.train d.from.0 d.to.0 o f like r is (take k (chosen_of m)) (get_or (chosen_of m) k unused) ((choices.1 m f r.seats d.from.0 d.to.0 o).1 k (omega (arith, many_of m, u))));
+      }
+    where
+      all : seats_of (party_of d.train (way d o near) (chosen_of m)) ≡ chosen_of m
+      all = party_seats d.train (way d o near) (chosen_of m) (omega (arith, group_most m f r.seats d.from.0 d.to.0))
+
+-- ---- how it is answered
 
 module _ (n : ℕ) (tb : Table) (w : World) (reach : Reach n tb w) (i : ℕ) (l : i < n) (d : Demand) where
   abbrev x : State
@@ -204,21 +233,10 @@ module _ (n : ℕ) (tb : Table) (w : World) (reach : Reach n tb w) (i : ℕ) (l 
     chosen_for m = group m f r.seats d.from.0 d.to.0
 
     many : (m : ℕ) → length (chosen_for m) ≡ min m (covering x d)
-    many m = group_length m f r.seats d.from.0 d.to.0 o ∙ ap (min m) (sym (counts n tb w ok i l d.train d.from.0 d.to.0 o r is))
+    many = many_of n tb w ok i l d o r is f (λ k u c. c)
 
     seated : (m : ℕ) → m ≤ 8 → (near : d.to.0 < 30) → Seated x d (min m (covering x d)) (party_of d.train (way d o near) (chosen_for m))
-    seated m few near =
-        record {
-          train = refl;
-          from = refl;
-          to = refl;
-          all = ap length all ∙ many m;
-          each = λ k u. rw all
-              (wider n tb w ok i l d.train d.from.0 d.to.0 o r is (take k (chosen_for m)) (get_or (chosen_for m) k unused) ((choices.1 m f r.seats d.from.0 d.to.0 o).1 k (omega (arith, many m, u))));
-        }
-      where
-        all : seats_of (party_of d.train (way d o near) (chosen_for m)) ≡ chosen_for m
-        all = party_seats d.train (way d o near) (chosen_for m) (omega (arith, group_most m f r.seats d.from.0 d.to.0))
+    seated = seated_of n tb w ok i l d o r is f (λ k u c. c)
 
   -- what is left when a party is taken out of what is held
   sold_parts : (k : Ticket) (p : Party) → decided tb x (Sell d) ≡ Ok (Done (Sold k p)) → Splits x (apply tb x (Sold k p)) (pieces_of p)
@@ -250,8 +268,8 @@ module _ (n : ℕ) (tb : Table) (w : World) (reach : Reach n tb w) (i : ℕ) (l 
               let made : selling x d r (way d h.ordered low) ≡ Ok (Done (Sold (record { 0 = sold x + 1 }) p)) = rw (le-leb d.people (length ss) (omega (arith, long, c)), g) refl in
               subst (SaleAnswer tb x d) (sym made) (SaleAnswer.sells h o c g p (rw m at (seated h.ordered r is d.people h.few low)) (sold_parts _ p (met_is ∙ made)))
 
-  given_parts : (to : StationId) (k : Number) (p : Party) → decided tb x (Give to d) ≡ Ok (Gave to k p) → Splits x (after tb x (Ok (Gave to k p))) (pieces_of p)
-  given_parts to k p e t s u l = gifts_out t s u l tb to (pieces_of p) x k.0 (ok.fine i).sound (outcome_fits tb x (Give to d) _ e)
+  pub given_parts : (y : Input) (to : StationId) (k : Number) (b : Ask) (p : Party) → decided tb x y ≡ Ok (Gave to k b p) → Splits x (after tb x (Ok (Gave to k b p))) (pieces_of p)
+  given_parts y to k b p e t s u l = gifts_out t s u l tb to b (pieces_of p) x k.0 (ok.fine i).sound (outcome_fits tb x y _ e)
 
   gift : (to : StationId) → GiftAnswer tb x to d (decided tb x (Give to d))
   gift to = go (judges tb x (known_all n tb reach i) d)
@@ -274,8 +292,8 @@ module _ (n : ℕ) (tb : Table) (w : World) (reach : Reach n tb w) (i : ℕ) (l 
           places (inl a) (inl b) true g =
               let k = min d.people (room x.channels to.0) in
               let p = party_of d.train (way d h.ordered low) (chosen_for h.ordered r is k) in
-              let made : offering x to d r (way d h.ordered low) ≡ Ok (Gave to (next_number x.channels to.0) p) = rw (lt-ltb (all_waiting x.channels) 4096 a, lt-ltb c 4294967295 b, g) refl in
-              subst (GiftAnswer tb x to d) (sym made) (GiftAnswer.gives h o (omega (arith, a, b)) g p (seated h.ordered r is k (omega (arith, h.few)) low) (given_parts to _ p (met_is ∙ made)))
+              let made : offering x to d r (way d h.ordered low) ≡ Ok (Gave to (next_number x.channels to.0) unasked p) = rw (lt-ltb (all_waiting x.channels) 4096 a, lt-ltb c 4294967295 b, g) refl in
+              subst (GiftAnswer tb x to d) (sym made) (GiftAnswer.gives h o (omega (arith, a, b)) g p (seated h.ordered r is k (omega (arith, h.few)) low) (given_parts (Give to d) to _ unasked p (met_is ∙ made)))
 
   -- a station that holds a piece for the trip has the train open, and the train has the trip
   wanted : d.from.0 < d.to.0 → 1 ≤ d.people → d.people ≤ 8 → 1 ≤ covering x d → Wanted (tb d.train.0) d × (is_open x d.train ≡ true)

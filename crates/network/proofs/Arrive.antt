@@ -13,7 +13,8 @@ use Rattle.network.proofs.Moves.{received_beside}
 use Rattle.network.proofs.Sum.{sum_to, sum_cong, sum_at}
 use Rattle.network.specs.Places.{under_way}
 use Rattle.network.specs.Promises.{Settled, Arrives}
-use Rattle.network.specs.Worlds.{World, journal, state, channel, Told, wrote, spoke, reminder, Step, writes, reminds, more, Reach, Carry, said, taken, Carries, here, onward}
+use Rattle.asking.specs.Ticks.{reminder}
+use Rattle.network.specs.Worlds.{World, journal, state, channel, Told, wrote, spoke, Step, writes, reminds, more, Reach, Carry, said, taken, Carries, here, onward}
 use Rattle.pieces.specs.Parts.{blank}
 use Rattle.pieces.specs.declared.names.Train.{Train}
 use Rattle.pieces.specs.declared.piece.Piece.{Piece}

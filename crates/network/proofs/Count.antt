@@ -23,7 +23,7 @@ use Rattle.std.proofs.lemmas.Bool.{eq-eqb, ne_eqb}
 -- ---- the pieces that a journal gives to j, and takes from j, in order
 
 abbrev pub given_of : ℕ → Record → List Piece
-given_of j (Given to n p) = cond (eqb j to.0) (p ∷ []) []
+given_of j (Given to n a p) = cond (eqb j to.0) (p ∷ []) []
 given_of j e = []
 
 abbrev pub taken_of : ℕ → Record → List Piece

@@ -74,11 +74,11 @@ abbrev pub Lists : Table → Piece → Type 0
 Lists tb p = listed (tb p.train.0) p ≡ true
 
 away_next : (tb : Table) (x : State) (e : Record) → fits tb x e ≡ true → given_of x.me e ≡ []
-away_next tb x (Given to n p) f = rw (ne_eqb x.me to.0 (fits_given tb x to n p f).away) refl
+away_next tb x (Given to n a p) f = rw (ne_eqb x.me to.0 (fits_given tb x to n a p f).away) refl
 away_next tb x e f = refl
 
 sent_next : (tb : Table) (x : State) (e : Record) (k : ℕ) → fits tb x e ≡ true → All (Lists tb) (given_of k e)
-sent_next tb x (Given to n p) k f = cond_both (eqb k to.0) (p ∷ []) [] (All (Lists tb)) (λ _. All-cons (Lists tb) p [] (fits_given tb x to n p f).listed (All-nil (Lists tb))) (λ _. All-nil (Lists tb))
+sent_next tb x (Given to n a p) k f = cond_both (eqb k to.0) (p ∷ []) [] (All (Lists tb)) (λ _. All-cons (Lists tb) p [] (fits_given tb x to n a p f).listed (All-nil (Lists tb))) (λ _. All-nil (Lists tb))
 sent_next tb x e k f = All-nil (Lists tb)
 
 -- ---- a station

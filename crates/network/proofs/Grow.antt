@@ -3,14 +3,16 @@
 use Rattle.std.proofs.Common.{◌≡◌, ℕ, Bool, true, ◌&&◌, List, [], length, is_some, Some, None, fold, Option, sym, refl, ap, ◌∙◌, arith}
 use Rattle.choosing.specs.Parties.{seats_of, some as some_people}
 use Rattle.choosing.specs.declared.party.Party.{Party}
+use Rattle.network.proofs.Known.{known_all}
 use Rattle.network.proofs.Linked.{Intact, ok_reach, wrote_ind}
 use Rattle.network.proofs.Lists.{slice_index_same}
 use Rattle.network.proofs.Local.{listed_row, listed_party, fits_opened, fits_taken}
 use Rattle.network.specs.Promises.{Extends, Grows}
-use Rattle.network.specs.Worlds.{World, journal, state, Step, writes, reminds, accounts, none, more, Reach, beginning}
+use Rattle.network.specs.Worlds.{World, journal, state, Step, writes, reminds, accounts, asks, answers, tells, none, more, Reach, beginning}
+use Rattle.pieces.specs.declared.names.Train.{Train}
 use Rattle.pieces.specs.declared.piece.Piece.{Piece}
 use Rattle.state.specs.Changes.{apply, fits, listed_all, opened, returnable}
-use Rattle.state.specs.States.{State, begun, ticket_of}
+use Rattle.state.specs.States.{State, begun, is_open, ticket_of}
 use Rattle.state.specs.declared.record.Record.{Record}
 use Rattle.state.specs.declared.record.Record.TheVariants.{Opened, Sold, Undone, Given, Taken}
 use Rattle.std.proofs.lemmas.List.Sums.{fold_push}
@@ -46,7 +48,7 @@ module _ (tb ub : Table) (ext : Extends tb ub) where
       go : (y : Option Party) → returnable tb x y ≡ true → returnable ub x y ≡ true
       go None h = h
       go (Some p) h = party_more p _ h
-  fits_more x (Given to n p) f = listed_more p _ f
+  fits_more x (Given to n a p) f = listed_more p _ f
   fits_more x (Taken from n p) f = listed_more p _ f
   fits_more x e f = f
 
@@ -59,21 +61,24 @@ module _ (tb ub : Table) (ext : Extends tb ub) where
     abbrev Same : World → Type 0
     Same w = (i : ℕ) → state n tb w i ≡ state n ub w i
 
-    step_more : {w v : World} → Step n tb w v → Intact n tb w → Same w → Step n ub w v × Same v
-    step_more (writes w i e l t f) ok same = (
+    step_more : {w v : World} → Step n tb w v → Intact n tb w → ((i : ℕ) (t : Train) → is_open (state n tb w i) t ≡ true → is_some (tb t.0) ≡ true) → Same w → Step n ub w v × Same v
+    step_more (writes w i e l t f) ok known same = (
       writes w i e l t (rw (← same i) (fits_more (state n tb w i) e f)),
       wrote_ind w i e (omega (arith, ok.count)) (λ k js. fold (apply tb) (begun n k) js ≡ fold (apply ub) (begun n k) js)
           (fold_push (apply tb) (begun n i) (journal w i) e ∙ apply_more (state n tb w i) e f ∙ ap (λ x. apply ub x e) (same i) ∙ sym (fold_push (apply ub) (begun n i) (journal w i) e)) same,
     )
-    step_more (reminds w i j k l) ok same = (rw (same i) (reminds w i j k (rw (← same i) l)), same)
-    step_more (accounts w i j) ok same = (rw (same i) (accounts w i j), same)
+    step_more (reminds w i j k l) ok known same = (rw (same i) (reminds w i j k (rw (← same i) l)), same)
+    step_more (accounts w i j) ok known same = (rw (same i) (accounts w i j), same)
+    step_more (asks w i j d) ok known same = (rw (same i) (asks w i j d), same)
+    step_more (answers w i j l) ok known same = (rw (same i) (answers w i j (rw (← same i) l)), same)
+    step_more (tells w i j t o) ok known same = (rw (same i, some t.0 (known i t o)) (tells w i j t (rw (← same i) o)), same)
 
     first_same : Same (beginning n)
     first_same i = rw (slice_index_same {A = List Record} [] n i) refl
 
     reach_more : {w : World} → Reach n tb w → Reach n ub w × Same w
     reach_more none = (none, first_same)
-    reach_more (more r s) = let (q, same) = reach_more r in let (t, next) = step_more s (ok_reach n tb r) same in (more q t, next)
+    reach_more (more r s) = let (q, same) = reach_more r in let (t, next) = step_more s (ok_reach n tb r) (known_all n tb r) same in (more q t, next)
 
 pub grows : Grows
 grows n tb ub w ext r = reach_more tb ub ext n r

@@ -107,7 +107,7 @@ module _ (t : Train) (s u : ℕ) (l : s < 400) where
   one_here : (p : Piece) → t.0 ≡ p.train.0 → s ≡ p.seat.0 → one t s u p ≡ cond (within p.trip.from.0 p.trip.to.0 u) 1 0
   one_here p e f = grind (arith, nat_tests)
 
-  one_there : (p : Piece) → ((t.0 ≡ p.train.0) × (s ≡ p.seat.0) → ⊥) → one t s u p ≡ 0
+  pub one_there : (p : Piece) → ((t.0 ≡ p.train.0) × (s ≡ p.seat.0) → ⊥) → one t s u p ≡ 0
   one_there p d = grind (arith, nat_tests)
 
   pub same_word : (x : State) (p : Piece) → t.0 ≡ p.train.0 → s ≡ p.seat.0 → holding t s u x ≡ holds (word_at x.words (place x p.train) p.seat.0) u

@@ -11,10 +11,14 @@ pub mod Fine
 pub mod Linked
 pub mod Once
 pub mod Known
+pub mod Sales
 pub mod Alone
+pub mod Granted
+pub mod Turns
 pub mod Numbers
 pub mod Kept
 pub mod Undoing
 pub mod Arrive
 pub mod Grow
+pub mod Asked
 pub mod Bridge

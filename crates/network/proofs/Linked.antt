@@ -20,7 +20,8 @@ use Rattle.network.proofs.Stock.{stock, due, all_taken}
 use Rattle.network.proofs.Sum.{sum_to, sum_cong, sum_add, sum_swap, sum_has, sum_one, sum_at, sum_peak, sum_le}
 use Rattle.network.proofs.Trains.{share, share_le, share_elsewhere, home}
 use Rattle.network.specs.Places.{count_in, under_way}
-use Rattle.network.specs.Worlds.{World, journal, state, channel, Told, wrote, reminder, account, Step, writes, reminds, accounts, Steps, none, more, Reach, beginning}
+use Rattle.asking.specs.Ticks.{reminder, telling}
+use Rattle.network.specs.Worlds.{World, journal, state, channel, Told, wrote, spoke, account, request, result, Step, writes, reminds, accounts, asks, answers, tells, Steps, none, more, Reach, beginning}
 use Rattle.pieces.specs.Parts.{blank}
 use Rattle.pieces.specs.declared.names.Train.{Train}
 use Rattle.pieces.specs.declared.piece.Piece.{Piece}
@@ -42,6 +43,7 @@ pub record Placed (gs : List Piece) (n : ℕ) (p : Piece) : Type 0 where
 abbrev pub Right : List (List Record) → ℕ → ℕ → Body → Type 0
 Right js from to (body.Given n p) = Placed (given_to to (get_or js from [])) n.0 p
 Right js from to (body.Taken n) = n.0 ≤ length (taken_from to (get_or js from []))
+Right js from to b = Unit {0}
 
 abbrev pub Said : List (List Record) → Message → Type 0
 Said js m = Right js m.from.0 m.to.0 m.body
@@ -214,6 +216,10 @@ module _ (n : ℕ) (tb : Table) where
       go (inr d) = rw (ne_eqb k from.0 d, append-nil (taken_from k (journal w i))) (ok.link k i)
   next w i e ok t f k = rw (append-nil (taken_from k (journal w i))) (ok.link k i)
 
+  -- a message more that is right
+  more_said : (w : World) (m : Message) → Intact n tb w → Said w.journals m → Intact n tb (spoke w m)
+  more_said w m ok h = record { count = ok.count; fine = ok.fine; link = ok.link; heard = ok.heard; said = All-push (Said w.journals) w.said m ok.said h }
+
   pub ok_step : {w v : World} → Step n tb w v → Intact n tb w → Intact n tb v
   ok_step (writes w i e l t f) ok =
       record {
@@ -244,8 +250,8 @@ module _ (n : ℕ) (tb : Table) where
               let (g, f) = slice_index_begins blank d.place (later k j) d.within in
               record { place = d.place; number = d.number; within = g; piece = f ∙ d.piece }
           right k j (body.Taken m) d = omega (arith, longer j k)
-  ok_step (reminds w i j k l) ok =
-      record { count = ok.count; fine = ok.fine; link = ok.link; heard = ok.heard; said = All-push (Said w.journals) w.said (reminder (state n tb w i) i j k) ok.said new }
+          right k j b d = tt
+  ok_step (reminds w i j k l) ok = more_said w (reminder (state n tb w i) i j k) ok new
     where
       c : ℕ
       c = (channel (state n tb w i) j).heard
@@ -261,8 +267,10 @@ module _ (n : ℕ) (tb : Table) where
             within = omega (arith, ap length ((ok.fine i).line j).waiting, length-drop c gs);
             piece = sym (ap (λ l. get_or l k blank) ((ok.fine i).line j).waiting ∙ get_or-drop c gs k blank);
           }
-  ok_step (accounts w i j) ok =
-      record { count = ok.count; fine = ok.fine; link = ok.link; heard = ok.heard; said = All-push (Said w.journals) w.said (account (state n tb w i) i j) ok.said (omega (arith, ((ok.fine i).line j).taken)) }
+  ok_step (accounts w i j) ok = more_said w (account (state n tb w i) i j) ok (omega (arith, ((ok.fine i).line j).taken))
+  ok_step (asks w i j d) ok = more_said w (request (state n tb w i) i j d) ok tt
+  ok_step (answers w i j l) ok = more_said w (result (state n tb w i) (journal w i) i j) ok tt
+  ok_step (tells w i j t o) ok = more_said w (telling tb (state n tb w i) i j t) ok tt
 
   ok_begin : Intact n tb (beginning n)
   ok_begin =
@@ -287,6 +295,9 @@ module _ (n : ℕ) (tb : Table) (P : ℕ → List Record → Type 0) (first : (i
   kept (writes w i e l t f) ok h = wrote_ind w i e (omega (arith, ok.count)) P (next i (journal w i) e (ok.fine i).sound f (h i)) h
   kept (reminds w i j k l) ok h = h
   kept (accounts w i j) ok h = h
+  kept (asks w i j d) ok h = h
+  kept (answers w i j l) ok h = h
+  kept (tells w i j t o) ok h = h
 
   pub every : {w : World} → Reach n tb w → (i : ℕ) → P i (journal w i)
   every none i = rw (slice_index_same {A = List Record} [] n i) (first i)

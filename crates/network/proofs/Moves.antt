@@ -7,11 +7,11 @@ use Rattle.giving.specs.Channels.{fresh}
 use Rattle.state.specs.Changes.{apply, fits, with_words, put_back, opened, received, returned}
 use Rattle.state.specs.States.{State, place_of, place, is_open, was_closed, known, openable, ticket_of}
 use Rattle.state.specs.declared.record.Record.{Record}
-use Rattle.state.specs.declared.record.Record.TheVariants.{Opened, Closed, Sold, Undone, Given, Taken, Heard}
+use Rattle.state.specs.declared.record.Record.TheVariants.{Opened, Closed, Sold, Undone, Given, Taken, Heard, Declined}
 use Rattle.network.proofs.Count.{given_of, taken_of}
 use Rattle.network.proofs.Held.{Sound, altered_sound}
 use Rattle.network.proofs.Lists.{set_ind}
-use Rattle.network.proofs.Local.{Line, line_gave, line_took, line_heard, Listed, listed_row, free_lt, fits_opened, fits_given, fits_taken, fits_heard}
+use Rattle.network.proofs.Local.{Line, line_gave, line_took, line_heard, line_declined, Listed, listed_row, free_lt, fits_opened, fits_given, fits_taken, fits_heard, fits_declined}
 use Rattle.network.proofs.Trains.{opened_sound, closing_sound}
 use Rattle.network.specs.Worlds.{channel}
 use Rattle.pieces.specs.Stretches.{less, plus}
@@ -46,41 +46,43 @@ pub record Beside (x y : State) : Type 0 where
   pub closed : y.closed ≡ x.closed
   pub dropped : y.dropped ≡ x.dropped
   pub tickets : y.tickets ≡ x.tickets
+  pub asked : y.asked ≡ x.asked
   pub channels : y.channels ≡ x.channels
 
 pub opened_beside : (o : Option Row) (t : Train) (x : State) → Beside x (opened o t x)
-opened_beside None t x = record { me = refl; closed = refl; dropped = refl; tickets = refl; channels = refl }
-opened_beside (Some r) t x = record { me = refl; closed = refl; dropped = refl; tickets = refl; channels = refl }
+opened_beside None t x = record { me = refl; closed = refl; dropped = refl; tickets = refl; asked = refl; channels = refl }
+opened_beside (Some r) t x = record { me = refl; closed = refl; dropped = refl; tickets = refl; asked = refl; channels = refl }
 
 pub returned_beside : (y : Option Party) (x : State) → Beside x (returned y x)
-returned_beside None x = record { me = refl; closed = refl; dropped = refl; tickets = refl; channels = refl }
-returned_beside (Some p) x = record { me = refl; closed = refl; dropped = refl; tickets = refl; channels = refl }
+returned_beside None x = record { me = refl; closed = refl; dropped = refl; tickets = refl; asked = refl; channels = refl }
+returned_beside (Some p) x = record { me = refl; closed = refl; dropped = refl; tickets = refl; asked = refl; channels = refl }
 
 pub received_beside : (tb : Table) (x : State) (p : Piece) → Beside x (received tb x p)
 received_beside tb x p = go (was_closed x p.train) (is_open x p.train)
   where
     go : (b c : Bool) → Beside x (cond b x (put_back (cond c x (opened (tb p.train.0) p.train x)) p))
-    go false false = let b = opened_beside (tb p.train.0) p.train x in record { me = b.me; closed = b.closed; dropped = b.dropped; tickets = b.tickets; channels = b.channels }
-    go _ _ = record { me = refl; closed = refl; dropped = refl; tickets = refl; channels = refl }
+    go false false = let b = opened_beside (tb p.train.0) p.train x in record { me = b.me; closed = b.closed; dropped = b.dropped; tickets = b.tickets; asked = b.asked; channels = b.channels }
+    go _ _ = record { me = refl; closed = refl; dropped = refl; tickets = refl; asked = refl; channels = refl }
 
 -- ---- the lines
 
 pub lines_next : (tb : Table) (x : State) (e : Record) → length (apply tb x e).channels ≡ length x.channels
 lines_next tb x (Opened t) = ap length (opened_beside (tb t.0) t x).channels
 lines_next tb x (Undone n) = ap length (returned_beside (ticket_of x n.0) x).channels
-lines_next tb x (Given to n p) = length-set x.channels to.0 _
+lines_next tb x (Given to n a p) = length-set x.channels to.0 _
 lines_next tb x (Taken from n p) = length-set (received tb x p).channels from.0 _ ∙ ap length (received_beside tb x p).channels
 lines_next tb x (Heard from n) = length-set x.channels from.0 _
+lines_next tb x (Declined to a) = length-set x.channels to.0 _
 lines_next tb x e = refl
 
--- a line after a record, by what it was: of Given, Taken and Heard one line is written
+-- a line after a record, by what it was: of Given, Taken, Heard and Declined one line is written
 pub line_next : (tb : Table) (x : State) (e : Record) (k : ℕ) (gs ts : List Piece) → fits tb x e ≡ true → Line (channel x k) gs ts → Line (channel (apply tb x e) k) (gs ++ given_of k e) (ts ++ taken_of k e)
 line_next tb x (Opened t) k gs ts f l = rw (append-nil gs, append-nil ts, (opened_beside (tb t.0) t x).channels) l
 line_next tb x (Undone n) k gs ts f l = rw (append-nil gs, append-nil ts, (returned_beside (ticket_of x n.0) x).channels) l
-line_next tb x (Given to n p) k gs ts f l =
+line_next tb x (Given to n a p) k gs ts f l =
     rw (append-nil ts)
-    (set_ind (λ k c. Line (channel x k) gs ts → Line c (gs ++ given_of k (Given to n p)) ts) x.channels to.0 _ fresh (fits_given tb x to n p f).there
-    (λ l. rw (eq-eqb to.0 to.0 refl) (line_gave _ gs ts p l)) (λ k d l. rw (ne_eqb k to.0 d, append-nil gs) l) k l)
+    (set_ind (λ k c. Line (channel x k) gs ts → Line c (gs ++ given_of k (Given to n a p)) ts) x.channels to.0 _ fresh (fits_given tb x to n a p f).there
+    (λ l. rw (eq-eqb to.0 to.0 refl) (line_gave _ gs ts a.0 p l)) (λ k d l. rw (ne_eqb k to.0 d, append-nil gs) l) k l)
 line_next tb x (Taken from n p) k gs ts f l =
     rw (append-nil gs, (received_beside tb x p).channels)
     (set_ind (λ k c. Line (channel x k) gs ts → Line c gs (ts ++ taken_of k (Taken from n p))) x.channels from.0 _ fresh (fits_taken tb x from n p f).there
@@ -89,6 +91,9 @@ line_next tb x (Heard from n) k gs ts f l =
     let (b, h) = fits_heard tb x from n f in
     rw (append-nil gs, append-nil ts)
     (set_ind (λ k c. Line (channel x k) gs ts → Line c gs ts) x.channels from.0 _ fresh b (line_heard _ gs ts n.0 h) (λ k d l. l) k l)
+line_next tb x (Declined to a) k gs ts f l =
+    rw (append-nil gs, append-nil ts)
+    (set_ind (λ k c. Line (channel x k) gs ts → Line c gs ts) x.channels to.0 _ fresh (fits_declined tb x to a f).0 (line_declined _ gs ts a.0) (λ k d l. l) k l)
 line_next tb x e k gs ts f l = rw (append-nil gs, append-nil ts) l
 
 -- the number up to which a record acknowledges what was given to k
@@ -99,11 +104,12 @@ hears k e = 0
 pub heard_next : (tb : Table) (x : State) (e : Record) (k : ℕ) → fits tb x e ≡ true → (channel (apply tb x e) k).heard ≤ max (channel x k).heard (hears k e)
 heard_next tb x (Opened t) k f = rw (opened_beside (tb t.0) t x).channels (omega arith)
 heard_next tb x (Undone n) k f = rw (returned_beside (ticket_of x n.0) x).channels (omega arith)
-heard_next tb x (Given to n p) k f = set_ind (λ k c. c.heard ≤ max (channel x k).heard 0) x.channels to.0 _ fresh (fits_given tb x to n p f).there (omega arith) (λ k d. omega arith) k
+heard_next tb x (Given to n a p) k f = set_ind (λ k c. c.heard ≤ max (channel x k).heard 0) x.channels to.0 _ fresh (fits_given tb x to n a p f).there (omega arith) (λ k d. omega arith) k
 heard_next tb x (Taken from n p) k f =
     rw (received_beside tb x p).channels (set_ind (λ k c. c.heard ≤ max (channel x k).heard 0) x.channels from.0 _ fresh (fits_taken tb x from n p f).there (omega arith) (λ k d. omega arith) k)
 heard_next tb x (Heard from n) k f =
     set_ind (λ k c. c.heard ≤ max (channel x k).heard (hears k (Heard from n))) x.channels from.0 _ fresh (fits_heard tb x from n f).0 (rw (eq-eqb from.0 from.0 refl) (omega arith)) (λ k d. omega arith) k
+heard_next tb x (Declined to a) k f = set_ind (λ k c. c.heard ≤ max (channel x k).heard 0) x.channels to.0 _ fresh (fits_declined tb x to a f).0 (omega arith) (λ k d. omega arith) k
 heard_next tb x e k f = omega arith
 
 -- ---- the slots and the words
@@ -131,5 +137,5 @@ sound_next tb x (Taken from n p) f h = go (received_by tb x p (fits_taken tb x f
     go (shut c) = h
     go (there c o) = word_sound x _ _ h
     go (anew r is c o l) = word_sound (opened (Some r) p.train x) _ _ (opened_sound x h p.train r o l)
-sound_next tb x (Heard from n) f h = h
-sound_next tb x e f h = word_sound x _ _ h
+sound_next tb x (Given to n a p) f h = word_sound x _ _ h
+sound_next tb x e f h = h

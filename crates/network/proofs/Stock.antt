@@ -8,7 +8,7 @@ use Rattle.state.proofs.Opens.{listed_seat, listed_seats}
 use Rattle.state.specs.Changes.{apply, fits, listed_all, put_all, opened, closing, returnable, forgotten, trimmed}
 use Rattle.state.specs.States.{State, place_of, is_open, among, was_closed, known, ticket_of}
 use Rattle.state.specs.declared.record.Record.{Record}
-use Rattle.state.specs.declared.record.Record.TheVariants.{Opened, Closed, Sold, Undone, Given, Taken, Heard}
+use Rattle.state.specs.declared.record.Record.TheVariants.{Opened, Closed, Sold, Undone, Given, Taken}
 use Rattle.network.proofs.Count.{given_of, taken_of, standing_push, standing_trimmed, one, count_nil, count_append, count_returned, count_to, one_other, count_forgotten}
 use Rattle.network.proofs.Held.{Sound, in_word, in_out, in_back, in_out_all, in_back_all, in_shut}
 use Rattle.network.proofs.Local.{fits_opened, fits_sold, fits_given, fits_taken}
@@ -136,12 +136,12 @@ module _ (n : ℕ) (tb : Table) (t : Train) (s u : ℕ) (l : s < 400) where
           let (a, o) = and_parts (listed_all (tb p.train.0) p) (is_open x p.train) g in
           let k = rw e at r in
           rw e (evenly (omega (arith, nil, undo_moved x m p h a o e (omega (arith, k, nil)))))
-  moved x (Given to m p) h c f r =
-      let g = fits_given tb x to m p f in
+  moved x (Given to m a p) h c f r =
+      let g = fits_given tb x to m a p f in
       evenly (omega (arith, nil, in_out t s u l x p h g.«open» (listed_seat (tb p.train.0) p g.listed) g.held, count_to t s u n to.0 p (omega (arith, g.there, c))))
   moved x (Taken from m p) h c f r =
       let g = fits_taken tb x from m p f in
       let k = count_to t s u n from.0 p (omega (arith, g.there, c)) in
       let v = take_moved x p h g.listed (received_by tb x p g.listed g.room) (omega (arith, k, r)) in
       record { most = omega (arith, v.most, k, nil); even = λ z. omega (arith, v.even z, k, nil) }
-  moved x (Heard from m) h c f r = evenly (omega (arith, nil))
+  moved x e h c f r = evenly (omega (arith, nil))

@@ -49,22 +49,22 @@ opening_bit i r s u l = seated_bit r.seats (opening i r) s u r.few l ∙ go (eqb
 
 module _ (x : State) (sound : Sound x) (z : Train) (r : Row) (shut : is_open x z ≡ false) (free : place_of x.slots None < length x.slots) where
   -- the free slot, and the slots when it is taken
-  abbrev k : ℕ
+  abbrev pub k : ℕ
   k = place_of x.slots None
 
-  abbrev ss : List (Option Train)
+  abbrev pub ss : List (Option Train)
   ss = set x.slots k (Some z)
 
   at_free : get_or x.slots k None ≡ None
   at_free = place_reads x.slots None free
 
-  place_z : place_of ss (Some z) ≡ k
+  pub place_z : place_of ss (Some z) ≡ k
   place_z = place_new x.slots k (Some z) free (shut_is x z shut)
 
-  place_t : (t : Train) → (t.0 ≡ z.0 → ⊥) → place_of ss (Some t) ≡ place_of x.slots (Some t)
+  pub place_t : (t : Train) → (t.0 ≡ z.0 → ⊥) → place_of ss (Some t) ≡ place_of x.slots (Some t)
   place_t t d = place_other x.slots k (Some z) (Some t) (rw at_free refl) (ne_eqb z.0 t.0 (λ e. d (sym e)))
 
-  not_free : (t : Train) → place_of x.slots (Some t) ≡ k → ⊥
+  pub not_free : (t : Train) → place_of x.slots (Some t) ≡ k → ⊥
   not_free t e = let f : Some t ≡ None = sym (place_reads x.slots (Some t) (omega arith)) ∙ ap (λ (i : ℕ). get_or x.slots i None) e ∙ at_free in cc
 
   pub opened_open : (t : Train) → t.0 ≡ z.0 → is_open (opened (Some r) z x) t ≡ true
@@ -114,7 +114,7 @@ module _ (x : State) (sound : Sound x) (z : Train) (o : is_open x z ≡ true) wh
   at_z : get_or x.slots (place x z) None ≡ Some z
   at_z = place_reads x.slots (Some z) (open_lt x z o)
 
-  closed_place : (t : Train) → (t.0 ≡ z.0 → ⊥) → place_of (set x.slots (place x z) None) (Some t) ≡ place_of x.slots (Some t)
+  pub closed_place : (t : Train) → (t.0 ≡ z.0 → ⊥) → place_of (set x.slots (place x z) None) (Some t) ≡ place_of x.slots (Some t)
   closed_place t d = place_other x.slots (place x z) None (Some t) (rw at_z (ne_eqb z.0 t.0 (λ e. d (sym e)))) refl
 
   gone : place_of (set x.slots (place x z) None) (Some z) ≡ length (set x.slots (place x z) None)

@@ -34,7 +34,7 @@ use Rattle.state.proofs.Opens.{listed_seats}
 use Rattle.state.specs.Changes.{apply, fits, forgotten, opened, closing, put_back, returnable, returned, with_words, put_all, listed_all}
 use Rattle.state.specs.States.{State, begun, place_of, place, is_open, known, was_closed, holds_piece, ticket_of}
 use Rattle.state.specs.declared.record.Record.{Record}
-use Rattle.state.specs.declared.record.Record.TheVariants.{Opened, Closed, Sold, Undone, Given, Taken, Heard}
+use Rattle.state.specs.declared.record.Record.TheVariants.{Opened, Closed, Sold, Undone, Taken}
 use Rattle.std.proofs.lemmas.List.{get_or_past}
 use Rattle.std.proofs.lemmas.List.Elements.{All-nil, All-set, All-push, All-drop, All-map, All-weaker}
 use Rattle.std.proofs.lemmas.List.Sums.{fold_push}
@@ -81,14 +81,13 @@ module _ (tb : Table) (x : State) (sound : Sound x) (h : OpenSales x) where
       go : (y : Option Party) → All (OpenAt (returned y x).slots) (set x.tickets (n.0 - 1 - x.dropped) None)
       go (Some p) = All-set (OpenAt x.slots) x.tickets _ None tt h
       go None = All-set (OpenAt x.slots) x.tickets _ None tt h
-  open_next (Given to n p) f = h
   open_next (Taken from n p) f = go (received_by tb x p (fits_taken tb x from n p f).listed (fits_taken tb x from n p f).room)
     where
       go : {y : State} → Received tb x p y → OpenSales y
       go (shut c) = h
       go (there c o) = h
       go (anew r is c o l) = opens p.train r o l
-  open_next (Heard from n) f = h
+  open_next e f = h
 
 open_all : (n : ℕ) (tb : Table) {w : World} → Reach n tb w → (i : ℕ) → OpenSales (state n tb w i)
 open_all n tb r i =

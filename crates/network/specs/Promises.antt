@@ -3,22 +3,29 @@ use Rattle.std.specs.Prelude.{◌≡◌, ℕ, ◌+◌, ◌<◌, ◌≤◌, true,
 use mathlib.Core.List.{Memᴰ}
 use Rattle.choosing.specs.Parties.{pieces_of}
 use Rattle.choosing.specs.declared.party.Party.{Party}
+use Rattle.asking.specs.Events.{Response, resolved}
+use Rattle.asking.specs.Minds.{Mind}
+use Rattle.asking.specs.Replies.{lasting, minded, spoken, written}
+use Rattle.asking.specs.declared.event.Event.{Event}
+use Rattle.asking.specs.declared.event.Event.TheVariants.{Call}
+use Rattle.giving.specs.declared.ids.Ask.{Ask}
 use Rattle.giving.specs.declared.ids.StationId.{StationId}
 use Rattle.giving.specs.declared.ids.Ticket.{Ticket}
 use Rattle.giving.specs.declared.message.Body.TheVariants as body
 use Rattle.giving.specs.declared.message.Message.{Message}
 use Rattle.giving.specs.declared.refusal.Refusal.TheVariants.{NothingHeld}
 use Rattle.ledger.specs.Decisions.{Answer, decided, decided_open, listing, messages, after, records}
-use Rattle.state.specs.States.{State, is_open, was_closed, known, openable, holds_piece, sold, tickets_left}
-use Rattle.ledger.specs.declared.input.Demand.{Demand}
+use Rattle.state.specs.States.{State, is_open, was_closed, kept, known, openable, holds_piece, sold, tickets_left}
+use Rattle.pieces.specs.declared.demand.Demand.{Demand}
 use Rattle.ledger.specs.declared.input.Input.{Input}
-use Rattle.ledger.specs.declared.input.Input.TheVariants.{Close, Sell, Undo, Give, Take, Hear}
+use Rattle.ledger.specs.declared.input.Input.TheVariants.{Sell, Give, Take, Hear, Grant}
+use Rattle.ledger.specs.declared.input.Input.TheVariants as input
 use Rattle.ledger.specs.declared.input.Outcome.TheVariants.{Done}
 use Rattle.state.specs.declared.record.Record.{Record}
-use Rattle.state.specs.declared.record.Record.TheVariants.{Sold}
-use Rattle.network.specs.Answers.{Wanted, Seated, SaleAnswer, GiftAnswer, UndoAnswer, covering}
+use Rattle.state.specs.declared.record.Record.TheVariants.{Sold, Given, Asked, Declined}
+use Rattle.network.specs.Answers.{Wanted, Seated, SaleAnswer, GiftAnswer, AskAnswer, TurnAnswer, UndoAnswer, covering}
 use Rattle.network.specs.Places.{holding, places, under_way}
-use Rattle.network.specs.Worlds.{World, journal, state, Steps, Reach, Carries}
+use Rattle.network.specs.Worlds.{World, journal, state, given_for, Steps, Reach, Carries}
 use Rattle.pieces.specs.Parts.{blank, has}
 use Rattle.pieces.specs.declared.names.Train.{Train}
 use Rattle.pieces.specs.declared.piece.Piece.{Piece}
@@ -75,6 +82,54 @@ Gives = (n : ℕ) (tb : Table) (w : World) → Reach n tb w → (i : ℕ) (to : 
 abbrev pub Undoes : Type 0
 Undoes = (n : ℕ) (tb : Table) (w : World) → Reach n tb w → (i : ℕ) (m : Ticket) → UndoAnswer tb (state n tb w i) m
 
+-- ---- asks
+
+-- An ask is answered, passed over or refused on the first ground that there is.
+abbrev pub Grants : Type 0
+Grants = (n : ℕ) (tb : Table) (w : World) → Reach n tb w → (i : ℕ) (from : StationId) (a : Ask) (d : Demand) → i < n → AskAnswer tb (state n tb w i) from a d (decided tb (state n tb w i) (Grant from a d))
+
+-- Others are asked, the first in turn to begin with, or it is refused on the first ground that there is.
+abbrev pub AsksFirst : Type 0
+AsksFirst = (n : ℕ) (tb : Table) (w : World) → Reach n tb w → (i : ℕ) (m : Mind) (d : Demand) → i < n → TurnAnswer tb (state n tb w i) m d (resolved tb (state n tb w i) m (Call (input.Ask d)))
+
+-- a journal has sold one of the train
+abbrev pub SoldIn : List Record → Train → Type 0
+SoldIn js t = (xs : List Record) × (ys : List Record) × (k : Ticket) × (p : Party) × (js ≡ xs ++ Sold k p ∷ ys) × (t.0 ≡ p.train.0)
+
+-- Nobody gives the kept seat away to an ask: of a train of which a station has ever sold one, the ticket undone or not, it still holds of the
+-- lowest seat of which it held anything all that it held of it.
+abbrev pub Keeps : Type 0
+Keeps = (n : ℕ) (tb : Table) (w : World) → Reach n tb w → (i : ℕ) (from : StationId) (a : Ask) (d : Demand) → i < n → SoldIn (journal w i) d.train →
+    (s u : ℕ) → s < 400 → holding d.train s u (state n tb w i) ≡ true → ((k v : ℕ) → k < s → holding d.train k v (state n tb w i) ≡ false) →
+    (v : ℕ) → holding d.train s v (after tb (state n tb w i) (decided tb (state n tb w i) (Grant from a d))) ≡ holding d.train s v (state n tb w i)
+
+-- One that never sold any of the train keeps no seat.
+abbrev pub KeepsNone : Type 0
+KeepsNone = (n : ℕ) (tb : Table) (w : World) → Reach n tb w → (i : ℕ) (t : Train) → is_open (state n tb w i) t ≡ true → (SoldIn (journal w i) t → ⊥) → kept (state n tb w i) t ≡ None
+
+-- a record by which an ask of a station's is answered, with a piece or with none
+abbrev pub Settles : Record → StationId → Ask → Type 0
+Settles (Given to n b p) j a = (to ≡ j) × (b ≡ a)
+Settles (Declined to b) j a = (to ≡ j) × (b ≡ a)
+Settles e j a = ⊥
+
+-- An ask is answered at most once: whatever has been done since, it and every earlier one of that station's come to nothing.
+abbrev pub AnswersOnce : Type 0
+AnswersOnce = (n : ℕ) (tb : Table) (w : World) → Reach n tb w → (i : ℕ) (from : StationId) (a b : Ask) (d : Demand) (xs ys : List Record) (e : Record) →
+    journal w i ≡ xs ++ e ∷ ys → Settles e from a → b.0 ≤ a.0 →
+    (records (decided tb (state n tb w i) (Grant from b d)) ≡ []) × (messages (after tb (state n tb w i) (decided tb (state n tb w i) (Grant from b d))) (Grant from b d) (decided tb (state n tb w i) (Grant from b d)) ≡ [])
+
+-- What was given for an ask is what the answer says: as many pieces, in all that was ever written.
+abbrev pub AnswersTrue : Type 0
+AnswersTrue = (n : ℕ) (tb : Table) (w : World) → Reach n tb w → (i : ℕ) (j : StationId) (a : Ask) (m : ℕ) →
+    Memᴰ (record { from = record { 0 = i }; to = j; body = body.Answered a m }) w.said → given_for j a (journal w i) ≡ m
+
+-- The number of an ask is never used again: of two in a station's journal the later one has the higher number.
+abbrev pub AsksRise : Type 0
+AsksRise = (n : ℕ) (tb : Table) (w : World) → Reach n tb w → (i : ℕ) (xs ys zs : List Record) (a b : Ask) → journal w i ≡ xs ++ Asked a ∷ (ys ++ Asked b ∷ zs) → a.0 < b.0
+
+-- ---- what is on its way
+
 -- what is left on its way is nothing, or begins with a piece that the other station has no room for: it does not know the train, and can open none
 abbrev pub Settled : List Piece → State → Type 0
 Settled [] y = Unit {0}
@@ -97,25 +152,30 @@ Grows = (n : ℕ) (tb ub : Table) (w : World) → Extends tb ub → Reach n tb w
 
 -- ---- what stations do is a run of such steps
 
--- what a station is told was said to it
+-- the pieces that a station is given, and what it hears was taken, were said to it; who asks, answers or tells may say what he likes
 abbrev pub Heeds : List Message → ℕ → Input → Type 0
-Heeds ms i (Close t) = Unit {0}
-Heeds ms i (Sell d) = Unit {0}
-Heeds ms i (Undo m) = Unit {0}
-Heeds ms i (Give to d) = Unit {0}
 Heeds ms i (Take from m p) = Memᴰ (record { from = from; to = record { 0 = i }; body = body.Given m p }) ms
 Heeds ms i (Hear from m) = Memᴰ (record { from = from; to = record { 0 = i }; body = body.Taken m }) ms
+Heeds ms i x = Unit {0}
 
--- the world after a call of station i that came to o: what it wrote, and what it said
-abbrev pub called : (n : ℕ) → Table → World → (i : ℕ) → Input → Answer → World
-called n tb w i x o = record { journals = slice_set w.journals i (journal w i ++ records o); said = w.said ++ messages (after tb (state n tb w i) o) x o }
+abbrev pub HeedsAll : List Message → ℕ → Event → Type 0
+HeedsAll ms i (Call x) = Heeds ms i x
+HeedsAll ms i e = Unit {0}
+
+-- the world after an event at station i, with this in mind, that came to r: what it wrote, and what it said
+abbrev pub called : (n : ℕ) → Table → World → (i : ℕ) → Mind → Event → Response → World
+called n tb w i m e r =
+    record {
+      journals = slice_set w.journals i (journal w i ++ written (state n tb w i) r);
+      said = w.said ++ spoken tb (lasting tb (state n tb w i) r) (minded (state n tb w i) m e r) e r;
+    }
 
 -- the world after station i was to open a train
 abbrev pub opened_by : World → (i : ℕ) → Answer → World
 opened_by w i o = record { journals = slice_set w.journals i (journal w i ++ records o); said = w.said }
 
--- Whatever a station decides and says of a call, or of a message that was said to it, is a run of steps, and so is an opening,
--- with the timetable that has the train's row.
+-- Whatever a station decides and says of a call, of a message that was said to it, or of a tick, whatever it has in mind, is a run of steps, and so is
+-- an opening, with the timetable that has the train's row.
 abbrev pub Runs : Type 0
-Runs = ((n : ℕ) (tb : Table) (w : World) → Reach n tb w → (i : ℕ) (x : Input) → i < n → Heeds w.said i x → Steps n tb w (called n tb w i x (decided tb (state n tb w i) x)))
+Runs = ((n : ℕ) (tb : Table) (w : World) → Reach n tb w → (i : ℕ) (m : Mind) (e : Event) → i < n → HeedsAll w.said i e → Steps n tb w (called n tb w i m e (resolved tb (state n tb w i) m e)))
     × ((n : ℕ) (tb : Table) (w : World) → Reach n tb w → (i : ℕ) (r : Row) → i < n → Steps n (listing tb r (decided_open tb (state n tb w i) r)) w (opened_by w i (decided_open tb (state n tb w i) r)))

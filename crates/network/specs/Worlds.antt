@@ -1,16 +1,19 @@
 -- Stations, each with its journal, and all that was ever said between them.
-use Rattle.std.specs.Prelude.{◌≡◌, ℕ, ◌+◌, ◌<◌, true, List, [], ◌∷◌, ◌++◌, length, replicate, fold, slice_index_or, slice_set}
+use Rattle.std.specs.Prelude.{◌≡◌, ℕ, ◌<◌, ◌≤◌, Bool, true, false, ◌&&◌, List, [], ◌∷◌, ◌++◌, length, replicate, fold, count_by, ◌==◌, slice_index_or, slice_set}
 use mathlib.Core.List.{Memᴰ}
 use Rattle.giving.specs.Channels.{Chan, line}
+use Rattle.asking.specs.Ticks.{reminder, telling}
+use Rattle.giving.specs.declared.ids.Ask.{Ask}
 use Rattle.giving.specs.declared.ids.Number.{Number}
 use Rattle.giving.specs.declared.ids.StationId.{StationId}
 use Rattle.giving.specs.declared.message.Body.TheVariants as body
 use Rattle.giving.specs.declared.message.Message.{Message}
 use Rattle.state.specs.Changes.{apply, fits}
-use Rattle.state.specs.States.{State, begun}
+use Rattle.state.specs.States.{State, begun, is_open}
 use Rattle.state.specs.declared.record.Record.{Record}
-use Rattle.state.specs.declared.record.Record.TheVariants.{Opened, Closed, Sold, Undone, Given, Taken, Heard}
-use Rattle.pieces.specs.Parts.{blank}
+use Rattle.state.specs.declared.record.Record.TheVariants.{Opened, Closed, Sold, Undone, Given, Taken, Heard, Asked, Declined}
+use Rattle.pieces.specs.declared.demand.Demand.{Demand}
+use Rattle.pieces.specs.declared.names.Train.{Train}
 use Rattle.pieces.specs.declared.piece.Piece.{Piece}
 use Rattle.timetable.specs.Rows.{Table}
 
@@ -32,15 +35,17 @@ channel s j = line s.channels j
 
 -- ---- what may happen
 
--- what a station takes and hears was said to it
+-- what a station takes and hears was said to it, and it gives no more for an ask once it has said how much it gave
 abbrev pub Told : List Message → ℕ → Record → Type 0
 Told ms i (Opened t) = Unit {0}
 Told ms i (Closed t) = Unit {0}
 Told ms i (Sold n p) = Unit {0}
 Told ms i (Undone n) = Unit {0}
-Told ms i (Given to n p) = Unit {0}
+Told ms i (Given to n a p) = (m : ℕ) → Memᴰ (record { from = record { 0 = i }; to = to; body = body.Answered a m }) ms → ⊥
 Told ms i (Taken from n p) = Memᴰ (record { from = from; to = record { 0 = i }; body = body.Given n p }) ms
 Told ms i (Heard from n) = Memᴰ (record { from = from; to = record { 0 = i }; body = body.Taken n }) ms
+Told ms i (Asked a) = Unit {0}
+Told ms i (Declined to a) = Unit {0}
 
 abbrev pub wrote : World → ℕ → Record → World
 wrote w i e = record { journals = slice_set w.journals i (journal w i ++ e ∷ []); said = w.said }
@@ -48,13 +53,26 @@ wrote w i e = record { journals = slice_set w.journals i (journal w i ++ e ∷ [
 abbrev pub spoke : World → Message → World
 spoke w m = record { journals = w.journals; said = w.said ++ m ∷ [] }
 
--- the piece that waits at place k of the channel from i to j, under its number
-abbrev pub reminder : State → (i j k : ℕ) → Message
-reminder s i j k = record { from = record { 0 = i }; to = record { 0 = j }; body = body.Given (record { 0 = (channel s j).heard + 1 + k }) (slice_index_or (channel s j).waiting k blank) }
-
 -- up to which number i has taken what j gave it
 abbrev pub account : State → (i j : ℕ) → Message
 account s i j = record { from = record { 0 = i }; to = record { 0 = j }; body = body.Taken (record { 0 = (channel s j).taken }) }
+
+-- i asks j, under the number of the last ask that it made
+abbrev pub request : State → (i : ℕ) → StationId → Demand → Message
+request s i j d = record { from = record { 0 = i }; to = j; body = body.Asked (record { 0 = s.asked }) d }
+
+-- a piece is given to station j for ask a
+abbrev pub is_gift : StationId → Ask → Record → Bool
+is_gift j a (Given to n b p) = to.0 == j.0 && b.0 == a.0
+is_gift j a e = false
+
+-- how many pieces a journal gives to it for that ask
+abbrev pub given_for : StationId → Ask → List Record → ℕ
+given_for j a js = count_by (is_gift j a) js
+
+-- how many pieces i gave for the last ask of j that it answered
+abbrev pub result : State → List Record → (i : ℕ) → StationId → Message
+result s js i j = record { from = record { 0 = i }; to = j; body = body.Answered (record { 0 = (channel s j.0).answered }) (given_for j (record { 0 = (channel s j.0).answered }) js) }
 
 -- A station writes a record that fits its state, or says something that is true of it. What it says comes behind what it
 -- writes, so a station that falls between the two has written and said nothing.
@@ -62,6 +80,9 @@ pub data Step (n : ℕ) (tb : Table) : World → World → Type 0 where
   writes : (w : World) (i : ℕ) (e : Record) → i < n → Told w.said i e → fits tb (state n tb w i) e ≡ true → Step n tb w (wrote w i e)
   reminds : (w : World) (i j k : ℕ) → k < length (channel (state n tb w i) j).waiting → Step n tb w (spoke w (reminder (state n tb w i) i j k))
   accounts : (w : World) (i j : ℕ) → Step n tb w (spoke w (account (state n tb w i) i j))
+  asks : (w : World) (i : ℕ) (j : StationId) (d : Demand) → Step n tb w (spoke w (request (state n tb w i) i j d))
+  answers : (w : World) (i : ℕ) (j : StationId) → 1 ≤ (channel (state n tb w i) j.0).answered → Step n tb w (spoke w (result (state n tb w i) (journal w i) i j))
+  tells : (w : World) (i : ℕ) (j : StationId) (t : Train) → is_open (state n tb w i) t ≡ true → Step n tb w (spoke w (telling tb (state n tb w i) i j t))
 
 -- any number of steps
 pub data Steps (n : ℕ) (tb : Table) (w : World) : World → Type 0 where

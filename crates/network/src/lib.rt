@@ -1,7 +1,7 @@
 // Stations, each with its journal, and all that was ever said between them: each stretch of each seat is in one place.
 #![tactic(auto)]
 
-ghost use Rattle.network.specs.Promises.{OnePlace, NeverTwice, NumbersRise, OnlyWhatIs, SellsAlone, Sells, Gives, Undoes, Arrives, Grows, Runs};
+ghost use Rattle.network.specs.Promises.{OnePlace, NeverTwice, NumbersRise, OnlyWhatIs, SellsAlone, Sells, Gives, Undoes, AsksFirst, Grants, Keeps, KeepsNone, AnswersOnce, AnswersTrue, AsksRise, Arrives, Grows, Runs};
 
 pub mod place;
 
@@ -43,6 +43,41 @@ pub fn gives_stands()
 // A ticket that stands can be undone, once, and any other cannot.
 pub fn undoes_stands()
     ensures { Undoes }
+{}
+
+// The first in turn is asked first.
+pub fn asks_first_stands()
+    ensures { AsksFirst }
+{}
+
+// An ask is answered, passed over or refused on the first ground that there is.
+pub fn grants_stand()
+    ensures { Grants }
+{}
+
+// Nobody gives the kept seat away to an ask.
+pub fn keeps_stands()
+    ensures { Keeps }
+{}
+
+// A station that never sold any of a train keeps no seat of it.
+pub fn keeps_none_stands()
+    ensures { KeepsNone }
+{}
+
+// An ask is answered at most once.
+pub fn answers_once_stands()
+    ensures { AnswersOnce }
+{}
+
+// What was given for an ask is what the answer says.
+pub fn answers_true_stands()
+    ensures { AnswersTrue }
+{}
+
+// The number of an ask is never used again.
+pub fn asks_rise_stands()
+    ensures { AsksRise }
 {}
 
 // What is on its way arrives, by saying and taking alone.

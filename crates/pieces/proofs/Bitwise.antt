@@ -52,7 +52,7 @@ pub holds_zero : (k : ℕ) → holds 0 k ≡ false
 holds_zero k = free 0 k (bit_at-zero k)
 
 -- two words with the same stretches are one
-same_holds : (v w : ℕ) → ((k : ℕ) → holds v k ≡ holds w k) → v ≡ w
+pub same_holds : (v w : ℕ) → ((k : ℕ) → holds v k ≡ holds w k) → v ≡ w
 unfolding holds
 same_holds v w h = same_from_bits v w (λ k. one_same _ _ (bit_at-lt v k) (bit_at-lt w k) (h k))
 

@@ -1,3 +1,4 @@
+pub mod Anything
 pub mod Around
 pub mod Bitwise
 pub mod Blocks

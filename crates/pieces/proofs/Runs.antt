@@ -34,7 +34,7 @@ end_of w b (suc n) h =
     (λ f. (b, omega arith, covers_none w b, f))
     (cases_Bool (holds w b))
 
-below_pow : (n : ℕ) → n < 2 ^ n
+pub below_pow : (n : ℕ) → n < 2 ^ n
 below_pow zero = omega arith
 below_pow (suc n) = omega (arith, below_pow n, pow-suc 2 n)
 

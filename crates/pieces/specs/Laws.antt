@@ -1,5 +1,5 @@
 -- What holds of every word.
-use Rattle.std.specs.Prelude.{◌≡◌, ℕ, suc, ◌^◌, ◌<◌, ◌≤◌, true, false, ◌⊎◌}
+use Rattle.std.specs.Prelude.{◌≡◌, ℕ, suc, ◌^◌, ◌<◌, ◌≤◌, true, false, ◌⊎◌, ◌≢◌}
 use Rattle.pieces.specs.Stretches.{holds, Covers, Clear, less, plus, FirstOf, EndOf}
 
 -- what was taken out and is put back, and what was put in and is taken out again, leaves the word as it was
@@ -27,3 +27,7 @@ Around = (w a b s e : ℕ) → w < 2 ^ 29 → a < b → Covers w a b → FirstOf
 
 abbrev pub Runs : Type 0
 Runs = InARun × Apart × Around
+
+-- a word is not 0 exactly if some stretch of it is held
+abbrev pub Something : Type 0
+Something = (w : ℕ) → ((w ≢ 0) → (k : ℕ) × (holds w k ≡ true)) × ((k : ℕ) → holds w k ≡ true → w ≢ 0)

@@ -1,5 +1,5 @@
 // What holds of every word, whichever function made it.
-ghost use Rattle.pieces.specs.Laws.{PutsBack, Runs};
+ghost use Rattle.pieces.specs.Laws.{PutsBack, Runs, Something};
 
 // What was taken out and is put back leaves the word as it was.
 pub fn put_back_stands()
@@ -9,4 +9,9 @@ pub fn put_back_stands()
 // Held stretches lie in runs, and runs that meet are one.
 pub fn joined_stands()
     ensures { Runs }
+{}
+
+// A word is something exactly if a stretch of it is held.
+pub fn something_stands()
+    ensures { Something }
 {}

@@ -2,6 +2,7 @@
 #![tactic(auto)]
 
 pub mod change;
+pub mod demand;
 pub mod laws;
 pub mod memory;
 pub mod names;
@@ -9,6 +10,7 @@ pub mod piece;
 pub mod profile;
 pub mod seats;
 pub mod stretch;
+pub mod tally;
 #[cfg(test)]
 mod tests;
 pub mod trip;

@@ -1,12 +1,14 @@
 // The seats of all open trains in one memory: 64 slots, with 400 words each.
-ghost use Rattle.std.specs.Prelude.{◌≡◌, ℕ, ◌<◌, ◌≤◌, ◌*◌, ◌+◌, ◌&&◌, replicate, length, nat_lt, slice_index, vec_len, IfOk, MatchOption};
+ghost use Rattle.std.specs.Prelude.{◌≡◌, ℕ, ◌<◌, ◌≤◌, ◌*◌, ◌+◌, ◌-◌, ◌&&◌, replicate, length, nat_lt, slice_index, vec_len, IfOk, MatchOption};
 ghost use Rattle.std.specs.List.{AllByRecursion};
+ghost use Rattle.pieces.specs.Counts.{tally_of};
 ghost use Rattle.pieces.specs.Memory.{word_at, train_at, altered, altered_all, seated, placed};
 ghost use Rattle.pieces.specs.Stretches.{holds, covered};
 ghost use Rattle.pieces.specs.declared.names.Seat.{Seat as Chair};
 
 use crate::change::Change;
 use crate::names::{Seat, Stop};
+use crate::tally::Tally;
 use crate::trip::Trip;
 use crate::{seats, words};
 use std::alloc::{AllocError, Global};
@@ -116,5 +118,13 @@ impl Memory {
         self.train(slot)
             .get(usize::from(seat.0))
             .is_some_and(|word| words::held(*word, stop))
+    }
+
+    // How much of a train with so many stops is held.
+    pub fn tally(&self, slot: Slot, stops: u8) -> Tally
+        requires { (2 ≤ stops) × (stops ≤ 30) }
+        ensures { result ≡ tally_of (stops - 1) (train_at self.now.words.items slot.index) }
+    {
+        Tally::count(self.train(slot), stops)
     }
 }

@@ -4,6 +4,7 @@ use crate::names::{Seat, Stop, Train};
 use crate::piece::Piece;
 use crate::profile::Profile;
 use crate::seats::{change, full};
+use crate::tally::Tally;
 use crate::trip::Trip;
 use crate::words::leftover;
 use std::test::Fail;
@@ -20,6 +21,7 @@ fn takes_out_and_puts_back(rt: HostRuntime) -> Result<(), Fail> {
     assert_eq!(rt; seats[1], 0b1001);
     assert_eq!(rt; leftover(seats[2], trip), Some(2));
     assert_eq!(rt; Profile::count(&seats).held[1], 2);
+    assert_eq!(rt; Tally::count(&seats, 5), Tally { whole: 1, any: 3 });
     change::<PutBack>(&mut seats, Seat(1), trip);
     assert_eq!(rt; seats[1], full(5));
     Ok(())
@@ -53,6 +55,7 @@ fn opens_a_train(rt: HostRuntime) -> Result<(), Fail> {
     assert_eq!(rt; memory.covers(slot, Seat(1), trip), true);
     assert_eq!(rt; memory.holds(slot, Seat(0), Stop(3)), true);
     assert_eq!(rt; memory.train(slot)[1], full(5));
+    assert_eq!(rt; memory.tally(slot, 5), Tally { whole: 1, any: 2 });
     memory.change_all::<PutBack>(slot, &[Seat(0), Seat(2)], trip);
     assert_eq!(rt; memory.covers(slot, Seat(0), trip), true);
     assert_eq!(rt; memory.covers(slot, Seat(400), trip), false);

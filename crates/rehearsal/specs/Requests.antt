@@ -1,11 +1,14 @@
--- What a request at the counter is to the station.
-use Rattle.ledger.specs.declared.input.Input.{Input}
-use Rattle.ledger.specs.declared.input.Input.TheVariants.{Close, Sell, Undo, Give}
+-- What a request at the counter, or a tick, is to the station.
+use Rattle.asking.specs.declared.event.Event.{Event}
+use Rattle.asking.specs.declared.event.Event.TheVariants.{Call, Tick}
+use Rattle.ledger.specs.declared.input.Input.TheVariants.{Close, Sell, Undo, Give, Ask}
 use Rattle.rehearsal.specs.declared.request.Request.{Request}
 use Rattle.rehearsal.specs.declared.request.Request.TheVariants as request
 
-abbrev pub asking : Request → Input
-asking (request.Close t) = Close t
-asking (request.Sell d) = Sell d
-asking (request.Undo n) = Undo n
-asking (request.Give to d) = Give to d
+abbrev pub requested : Request → Event
+requested (request.Close t) = Call (Close t)
+requested (request.Sell d) = Call (Sell d)
+requested (request.Undo n) = Call (Undo n)
+requested (request.Give to d) = Call (Give to d)
+requested (request.Ask d) = Call (Ask d)
+requested request.Tick = Tick

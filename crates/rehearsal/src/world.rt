@@ -10,7 +10,6 @@ use timetable::timetable::Timetable;
 pub mod moves;
 pub mod places;
 pub mod reads;
-pub mod ticks;
 
 #[derive(Drop)]
 pub struct World {

@@ -2,6 +2,8 @@
 ghost use Rattle.rehearse.specs.Answers.{answer_text, outcome_text, record_text};
 ghost use Rattle.std.specs.Prelude.{Some};
 
+use asking::event::Reply;
+use giving::ids::Ask;
 use giving::refusal::Refusal;
 use ledger::input::Outcome;
 use state::record::Record;
@@ -15,19 +17,18 @@ pub const EMPTY: &str = "empty\n";
 
 // What a station answers.
 #[derive(Clone, Copy, Drop)]
-pub enum Answer {
-    Came(Result<Outcome, Refusal>),
-    Ticked,
-}
+pub struct Answer(pub Result<Reply, Refusal>);
 
 impl fmt::Display for Answer {
-    ghost output = { λ a. Some (answer_text a) };
+    ghost output = { λ a. Some (answer_text a.0) };
 
     fn fmt<W: fmt::Write>(&self, f: &mut fmt::Formatter<W>) -> fmt::Result {
-        match *self {
-            Answer::Came(Ok(outcome)) => write!(f, "{}", Came(outcome)),
-            Answer::Came(Err(refusal)) => write!(f, "no {refusal}"),
-            Answer::Ticked => f.write_str("tick"),
+        match self.0 {
+            Ok(Reply::Came(outcome)) => write!(f, "{}", Came(outcome)),
+            Ok(Reply::Asks(first)) => write!(f, "asked {first}"),
+            Ok(Reply::Noted) => f.write_str("taken"),
+            Ok(Reply::Ticked) => f.write_str("tick"),
+            Err(refusal) => write!(f, "no {refusal}"),
         }
     }
 }
@@ -42,7 +43,8 @@ impl fmt::Display for Came {
     fn fmt<W: fmt::Write>(&self, f: &mut fmt::Formatter<W>) -> fmt::Result {
         match self.0 {
             Outcome::Done(entry) => write!(f, "{}", Done(entry)),
-            Outcome::Gave(to, _, party) => write!(f, "gave {to} {}", party.len()),
+            Outcome::Gave(to, _, Ask(0), party) => write!(f, "gave {to} {}", party.len()),
+            Outcome::Gave(..) => f.write_str("taken"),
             Outcome::Nothing => f.write_str("passed"),
             Outcome::Passed(refusal) => write!(f, "passed {refusal}"),
         }
@@ -62,8 +64,9 @@ impl fmt::Display for Done {
             Record::Closed(train) => write!(f, "closed {train}"),
             Record::Sold(ticket, party) => write!(f, "ticket {ticket} {party}"),
             Record::Undone(ticket) => write!(f, "undone {ticket}"),
-            Record::Given(to, _, _) => write!(f, "gave {to} 1"),
-            Record::Taken(_, _, _) | Record::Heard(_, _) => f.write_str("taken"),
+            Record::Given(to, _, _, _) => write!(f, "gave {to} 1"),
+            Record::Taken(..) | Record::Heard(..) | Record::Declined(..) => f.write_str("taken"),
+            Record::Asked(_) => f.write_str("asked"),
         }
     }
 }

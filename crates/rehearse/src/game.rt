@@ -3,9 +3,11 @@ ghost use Rattle.std.specs.Prelude.{◌≡◌, min};
 
 use crate::answer::{Answer, EMPTY, NO_COMMAND};
 use crate::map::write_train;
+use asking::event::Reply;
 use giving::ids::{StationId, Ticket};
 use giving::refusal::Refusal;
-use ledger::input::{Demand, Outcome};
+use ledger::input::Outcome;
+use pieces::demand::Demand;
 use pieces::names::{Stop, Train};
 use rehearsal::queue::Queue;
 use rehearsal::request::Request;
@@ -93,44 +95,31 @@ impl Game {
 
     // What a station answers to what it is told; none where it is not there.
     fn perform(&mut self, who: StationId, deed: Deed) -> Result<Option<Answer>, AllocError> {
-        if self.world.station(who).is_none() {
-            return Ok(None);
-        }
-        match deed {
-            Deed::Open(opening) => self.open(who, opening),
-            Deed::Close { train } => Ok(self.ask(who, Request::Close(Train(train)))),
-            Deed::Undo { ticket } => Ok(self.ask(who, Request::Undo(Ticket(ticket)))),
-            Deed::Sell(wish) => Ok(self.ask(who, Request::Sell(demand(wish)))),
-            Deed::Give { to, wish } => {
-                Ok(self.ask(who, Request::Give(station_id(to), demand(wish))))
-            }
-            Deed::Tick => Ok(self.tick(who)),
-        }
-    }
-
-    // What a station answers at its counter.
-    fn ask(&mut self, who: StationId, request: Request) -> Option<Answer> {
-        self.world.ask(who, request).map(Answer::Came)
+        let request = match deed {
+            Deed::Open(opening) => return self.open(who, opening),
+            Deed::Close { train } => Request::Close(Train(train)),
+            Deed::Sell(wish) => Request::Sell(demand(wish)),
+            Deed::Undo { ticket } => Request::Undo(Ticket(ticket)),
+            Deed::Give { to, wish } => Request::Give(station_id(to), demand(wish)),
+            Deed::Ask(wish) => Request::Ask(demand(wish)),
+            Deed::Tick => Request::Tick,
+        };
+        Ok(self.world.ask(who, request).map(Answer))
     }
 
     // A train is opened, and all stations have its row.
     fn open(&mut self, who: StationId, opening: Opening) -> Result<Option<Answer>, AllocError> {
+        if self.world.station(who).is_none() {
+            return Ok(None);
+        }
         let Some(row) = row(opening, self.world.stations()) else {
-            return Ok(Some(Answer::Came(Err(Refusal::Malformed))));
+            return Ok(Some(Answer(Err(Refusal::Malformed))));
         };
         let came = self.world.open(who, row);
         if let Some(Ok(Outcome::Done(_))) = came {
             self.trains.insert(row.train)?;
         }
-        Ok(came.map(Answer::Came))
-    }
-
-    // A tick: all that waits is said again.
-    fn tick(&mut self, who: StationId) -> Option<Answer> {
-        match self.world.tick(who)? {
-            Ok(()) => Some(Answer::Ticked),
-            Err(refusal) => Some(Answer::Came(Err(refusal))),
-        }
+        Ok(came.map(|came| Answer(came.map(Reply::Came))))
     }
 
     // A message is delivered: it is printed, then what is said of it, then what it came to.
@@ -139,10 +128,10 @@ impl Game {
         let Some(delivered) = self.world.deliver(at) else {
             return page.push_str(NO_COMMAND);
         };
-        let (message, outcome) = delivered;
+        let (message, reply) = delivered;
         writeln!(page, "{}", Coming(message))?;
         self.hear(before, page)?;
-        writeln!(page, "{} {}", message.to, Answer::Came(outcome))
+        writeln!(page, "{} {}", message.to, Answer(reply))
     }
 
     // The first message in the queue is delivered, if there is one.

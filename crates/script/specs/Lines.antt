@@ -4,7 +4,7 @@ use Rattle.std.specs.Option.{option_and_then}
 use Rattle.script.specs.declared.command.Command.{Command}
 use Rattle.script.specs.declared.command.Command.TheVariants.{Stations, Station, Pass, PassMany, Lose, Twice, Late, Where}
 use Rattle.script.specs.declared.command.Deed.{Deed}
-use Rattle.script.specs.declared.command.Deed.TheVariants.{Open, Close, Sell, Undo, Give, Tick}
+use Rattle.script.specs.declared.command.Deed.TheVariants.{Open, Close, Sell, Undo, Give, Ask, Tick}
 use Rattle.script.specs.Words.{words_of, number_of, numbers_of}
 
 -- what a station is told, by a word and the numbers behind it
@@ -14,7 +14,8 @@ deed_of w (t ∷ []) = if bytes_eq w (codes "close") then Some (Close t) else (i
 deed_of w (t ∷ a ∷ []) = None
 deed_of w (t ∷ a ∷ b ∷ []) = None
 deed_of w (t ∷ a ∷ b ∷ n ∷ []) = if bytes_eq w (codes "sell") then Some (Sell (record { train = t; from = a; to = b; people = n }))
-    else (if bytes_eq w (codes "open") then Some (Open (record { train = t; seats = a; stops = b; first = n })) else None)
+    else (if bytes_eq w (codes "open") then Some (Open (record { train = t; seats = a; stops = b; first = n }))
+    else (if bytes_eq w (codes "ask") then Some (Ask (record { train = t; from = a; to = b; people = n })) else None))
 deed_of w (j ∷ t ∷ a ∷ b ∷ n ∷ []) = if bytes_eq w (codes "give") then Some (Give j (record { train = t; from = a; to = b; people = n })) else None
 deed_of w (j ∷ t ∷ a ∷ b ∷ n ∷ x ∷ xs) = None
 

@@ -2,7 +2,7 @@
 use Rattle.std.specs.Prelude.{ℕ, ◌-◌, ◌^◌, false, List, [], ◌++◌, codes}
 use Rattle.std.specs.Fmt.{decimal, digits, format_spec, padded_integral}
 use Rattle.giving.specs.declared.message.Body.{Body}
-use Rattle.giving.specs.declared.message.Body.TheVariants.{Given, Taken}
+use Rattle.giving.specs.declared.message.Body.TheVariants.{Given, Taken, Asked, Answered, Told}
 use Rattle.giving.specs.declared.message.Message.{Message}
 
 -- a number in so many hexadecimal digits, with zeros in front
@@ -13,6 +13,9 @@ hex_of width n = padded_integral (format_spec 32 0 4 width (2 ^ 64 - 1)) false [
 abbrev pub body_text : Body → List ℕ
 body_text (Given n p) = codes "01" ++ (hex_of 8 n.0 ++ (hex_of 8 p.train.0 ++ (hex_of 4 p.seat.0 ++ (hex_of 2 p.trip.from.0 ++ hex_of 2 p.trip.to.0))))
 body_text (Taken n) = codes "02" ++ hex_of 8 n.0
+body_text (Asked a d) = codes "03" ++ (hex_of 8 d.train.0 ++ (hex_of 2 d.from.0 ++ (hex_of 2 d.to.0 ++ (hex_of 2 d.people ++ hex_of 8 a.0))))
+body_text (Answered a n) = codes "04" ++ (hex_of 8 a.0 ++ hex_of 2 n)
+body_text (Told t y) = codes "05" ++ (hex_of 8 t.0 ++ (hex_of 4 y.whole ++ hex_of 4 y.any))
 
 -- a message as the station that says it prints it
 abbrev pub said_text : Message → List ℕ

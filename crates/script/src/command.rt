@@ -33,6 +33,8 @@ pub enum Deed {
     Undo { ticket: u32 },
     // to another station
     Give { to: u32, wish: Wish },
+    // for pieces
+    Ask(Wish),
     Tick,
 }
 
@@ -94,6 +96,12 @@ fn station_deed(word: &str, args: &[u32]) -> Option<Deed>
             seats,
             stops,
             first,
+        })),
+        ("ask", &[train, from, to, people]) => Some(Deed::Ask(Wish {
+            train,
+            from,
+            to,
+            people,
         })),
         ("give", &[station, train, from, to, people]) => Some(Deed::Give {
             to: station,

@@ -20,6 +20,15 @@ impl fmt::Display for Hex {
                 number.0, piece.train.0, piece.seat.0, piece.trip.from.0, piece.trip.to.0
             ),
             Body::Taken(number) => write!(f, "02{:08x}", number.0),
+            Body::Asked(ask, demand) => write!(
+                f,
+                "03{:08x}{:02x}{:02x}{:02x}{:08x}",
+                demand.train.0, demand.from.0, demand.to.0, demand.people, ask.0
+            ),
+            Body::Answered(ask, count) => write!(f, "04{:08x}{:02x}", ask.0, count),
+            Body::Told(train, tally) => {
+                write!(f, "05{:08x}{:04x}{:04x}", train.0, tally.whole, tally.any)
+            }
         }
     }
 }

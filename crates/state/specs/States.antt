@@ -1,26 +1,31 @@
 -- A station's lasting state as plain lists, and what can be read off it.
 use Rattle.std.specs.Prelude.{ℕ, suc, ◌+◌, ◌-◌, Bool, true, false, cond, ◌&&◌, ◌||◌, List, [], ◌∷◌, length, replicate, ◌==◌, nat_lt, slice_index_or, Some, None, Option}
+use Rattle.choosing.specs.Choice.{lowest}
 use Rattle.choosing.specs.declared.party.Party.{Party}
 use Rattle.giving.specs.Channels.{Chan, fresh}
 use Rattle.pieces.specs.Memory.{word_at}
 use Rattle.pieces.specs.Stretches.{covered}
+use Rattle.pieces.specs.declared.names.Seat.{Seat}
 use Rattle.pieces.specs.declared.names.Train.{Train}
 use Rattle.pieces.specs.declared.piece.Piece.{Piece}
 
 -- `me` is the station's own number. Each open train has a slot, and the words of its seats stand at the place of that slot.
--- The ticket with the number n stands at n - 1 - dropped: the first `dropped` tickets are forgotten.
+-- Beside the slots stands whether a ticket of the train was ever sold here. The ticket with the number n stands at n - 1 - dropped: the
+-- first `dropped` tickets are forgotten. `asked` is the number of the last ask that was made.
 pub record State : Type 0 where
   pub me : ℕ
   pub slots : List (Option Train)
   pub words : List ℕ
+  pub ever_sold : List Bool
   pub closed : List Train
   pub dropped : ℕ
   pub tickets : List (Option Party)
+  pub asked : ℕ
   pub channels : List Chan
 
 -- number `me` of n stations, which has done nothing yet
 abbrev pub begun : (n me : ℕ) → State
-begun n i = record { me = i; slots = replicate 64 None; words = replicate 25600 0; closed = []; dropped = 0; tickets = []; channels = replicate n fresh }
+begun n i = record { me = i; slots = replicate 64 None; words = replicate 25600 0; ever_sold = replicate 64 false; closed = []; dropped = 0; tickets = []; asked = 0; channels = replicate n fresh }
 
 -- ---- trains
 
@@ -62,12 +67,24 @@ openable s = nat_lt (place_of s.slots None) (length s.slots) && nat_lt (length s
 abbrev pub holds_piece : State → Piece → Bool
 holds_piece s p = nat_lt p.seat.0 400 && covered (word_at s.words (place s p.train) p.seat.0) p.trip.from.0 p.trip.to.0
 
+-- a ticket of an open train was ever sold here, whether it stands or not
+abbrev pub has_sold : State → Train → Bool
+has_sold s t = slice_index_or s.ever_sold (place s t) false
+
+-- the seat of a train that is kept when another station asks: where one of the train was ever sold, the lowest of which anything is held
+abbrev pub kept : State → Train → Option Seat
+kept s t = cond (has_sold s t) (lowest (word_at s.words (place s t)) 400) None
+
 -- how many tickets were ever sold
 abbrev pub sold : State → ℕ
 sold s = s.dropped + length s.tickets
 
 abbrev pub tickets_left : State → Bool
 tickets_left s = nat_lt (sold s) 4294967295
+
+-- a number is left for an ask
+abbrev pub asks_left : State → Bool
+asks_left s = nat_lt s.asked 4294967295
 
 abbrev pub ticket_of : State → ℕ → Option Party
 ticket_of s n = cond (nat_lt s.dropped n) (slice_index_or s.tickets (n - 1 - s.dropped) None) None

@@ -1,11 +1,11 @@
 // What happens on a channel.
 ghost use Rattle.std.specs.Prelude.{◌≡◌, ℕ, ◌+◌, ◌-◌, ◌<◌, ◌≤◌, true, length, IfOk, MatchOption, ◌==◌, nat_le, slice_index_or};
-ghost use Rattle.giving.specs.Channels.{chan, fresh, gave, heard_to, numbered, news, stands};
+ghost use Rattle.giving.specs.Channels.{chan, declined, fresh, gave, heard_to, numbered, news, stands, unanswered};
 ghost use Rattle.giving.specs.Receipts.{Received};
 ghost use Rattle.pieces.specs.Parts.{blank};
 
 use super::Channel;
-use crate::ids::Number;
+use crate::ids::{Ask, Number};
 use crate::refusal::Refusal;
 use pieces::piece::Piece;
 use std::alloc::{AllocError, Global};
@@ -25,6 +25,7 @@ impl Channel {
             given: Number(0),
             heard: Number(0),
             taken: Number(0),
+            answered: Ask(0),
             waiting,
         })
     }
@@ -130,15 +131,30 @@ impl Channel {
         self.heard
     }
 
+    // Whether an ask of the other station's is later than all that were answered.
+    pub fn is_unanswered(&self, ask: Ask) -> bool
+        ensures { result ≡ unanswered (chan self.now) ask.0 }
+    {
+        self.answered < ask
+    }
+
     // Uses up the next number for a piece, which then waits.
-    pub fn give(&mut self, piece: Piece)
+    pub fn give(&mut self, ask: Ask, piece: Piece)
         requires numbered { numbered (chan self.old) ≡ true }
         requires room { length (chan self.old).waiting < 4096 }
-        ensures { chan self.new ≡ gave (chan self.old) piece }
+        ensures { chan self.new ≡ gave (chan self.old) ask.0 piece }
     {
         let number = self.next_number();
         self.waiting.push_back(piece).unwrap();
         self.given = number;
+        self.answered = self.answered.max(ask);
+    }
+
+    // Answers an ask with nothing.
+    pub fn decline(&mut self, ask: Ask)
+        ensures { chan self.new ≡ declined (chan self.old) ask.0 }
+    {
+        self.answered = ask;
     }
 
     // Lets go of the pieces up to a number that the other station acknowledges.

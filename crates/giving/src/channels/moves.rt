@@ -2,19 +2,19 @@
 #![tactic(auto, using(crate::proofs::Mapped::mapped))]
 
 ghost use Rattle.std.specs.Prelude.{◌≡◌};
-ghost use Rattle.giving.specs.Calls.{gives, after_give, hears, after_hear, receives, after_receive};
+ghost use Rattle.giving.specs.Calls.{gives, after_give, declines, after_decline, hears, after_hear, receives, after_receive};
 ghost use Rattle.giving.specs.Posts.{chans};
 
 use super::Channels;
-use crate::ids::{Number, StationId};
+use crate::ids::{Ask, Number, StationId};
 use crate::refusal::Refusal;
 use pieces::piece::Piece;
 
 impl Channels {
-    // Gives a piece to another station: it gets the next number, and waits until that station has heard of it.
-    pub fn give(&mut self, to: StationId, piece: Piece) -> Result<Number, Refusal>
+    // Gives a piece to another station, for an ask of its or for none: it gets the next number, and waits until that station has heard of it.
+    pub fn give(&mut self, to: StationId, ask: Ask, piece: Piece) -> Result<Number, Refusal>
         ensures answer { result ≡ gives self.old.me.0 (chans self.old) to.0 }
-        ensures after { chans self.new ≡ after_give self.old.me.0 (chans self.old) to.0 piece }
+        ensures after { chans self.new ≡ after_give self.old.me.0 (chans self.old) to.0 ask.0 piece }
         ensures me { self.new.me ≡ self.old.me }
     {
         if !self.is_roomy() || !self.is_numbered(to) {
@@ -24,9 +24,22 @@ impl Channels {
             return Err(Refusal::NoSuchStation);
         }
         let number = self.next_number(to);
-        self.lines[usize::from(to.0)].give(piece);
+        self.lines[usize::from(to.0)].give(ask, piece);
         self.waiting += 1;
         Ok(number)
+    }
+
+    // Answers an ask of another station's with nothing.
+    pub fn decline(&mut self, to: StationId, ask: Ask) -> Result<(), Refusal>
+        ensures answer { result ≡ declines self.old.me.0 (chans self.old) to.0 }
+        ensures after { chans self.new ≡ after_decline self.old.me.0 (chans self.old) to.0 ask.0 }
+        ensures me { self.new.me ≡ self.old.me }
+    {
+        if !self.is_other(to) {
+            return Err(Refusal::NoSuchStation);
+        }
+        self.lines[usize::from(to.0)].decline(ask);
+        Ok(())
     }
 
     // Another station has taken all up to a number: what waits up to it is let go. Says whether that was news.

@@ -1,14 +1,14 @@
 // What the channels of a station say.
 ghost use Rattle.std.specs.Prelude.{◌≡◌, ℕ, ◌+◌, ◌<◌, ◌≤◌, true, length, replicate, IfOk, MatchOption, ◌==◌, nat_le, slice_index_or};
 ghost use Rattle.giving.specs.Calls.{room};
-ghost use Rattle.giving.specs.Channels.{chan, fresh, line, other, numbered, news, roomy, stands};
+ghost use Rattle.giving.specs.Channels.{all_waiting, chan, fresh, line, other, numbered, news, roomy, stands, unanswered};
 ghost use Rattle.giving.specs.Posts.{chans};
 ghost use Rattle.pieces.specs.Parts.{blank};
 
 use super::Channels;
 use crate::channel::Channel;
 use crate::channel::moves::MOST;
-use crate::ids::{Number, StationId};
+use crate::ids::{Ask, Number, StationId};
 use pieces::piece::Piece;
 use std::alloc::{AllocError, Global};
 use std::cmp::Ordering;
@@ -16,6 +16,7 @@ use std::cmp::Ordering;
 impl Channels {
     // The channels of station `me` to each of so many stations, none of them used yet.
     pub fn new(heap: Global, me: StationId, stations: u16) -> Result<Channels, AllocError>
+        requires { stations ≤ 256 }
         ensures { IfOk result (λ c. (chans c ≡ replicate stations fresh) × (c.me ≡ me)) }
     {
         let mut lines = Vec::new(heap);
@@ -29,9 +30,10 @@ impl Channels {
         })
     }
 
-    // How many stations there are.
+    // How many stations there are: no more than have a number.
     pub fn len(&self) -> usize
-        ensures { result ≡ length (chans self.now) }
+        ensures value { result ≡ length (chans self.now) }
+        ensures few { result ≤ 256 }
     {
         self.lines.len()
     }
@@ -143,6 +145,21 @@ impl Channels {
     {
         self.channel(to)
             .map_or(Number(0), |channel| channel.heard_to())
+    }
+
+    // Whether an ask of a station's is later than all of its that were answered.
+    pub fn is_unanswered(&self, from: StationId, ask: Ask) -> bool
+        ensures { result ≡ unanswered (line (chans self.now) from.0) ask.0 }
+    {
+        self.channel(from)
+            .map_or(ask.0 > 0, |channel| channel.is_unanswered(ask))
+    }
+
+    // How many pieces wait for all stations together.
+    pub fn waiting_in_all(&self) -> usize
+        ensures { result ≡ all_waiting (chans self.now) }
+    {
+        self.waiting
     }
 
     // How many pieces wait for a station.

@@ -1,9 +1,9 @@
 // The changes of a station's state, one for each kind of record.
 ghost use Rattle.std.specs.Prelude.{◌≡◌, ◌+◌, ◌-◌, ◌<◌, true, ◌&&◌, ◌||◌, [], ◌∷◌, ◌++◌, map, if◌then◌else◌, vec_len, vec_capacity, MatchResult, ◌==◌, slice_set};
 ghost use Rattle.giving.specs.Calls.{givable};
-ghost use Rattle.giving.specs.Channels.{gave, heard_to, line, news, other, took};
+ghost use Rattle.giving.specs.Channels.{declined, gave, heard_to, line, news, other, took, unanswered};
 ghost use Rattle.giving.specs.declared.refusal.Refusal.TheVariants.{Memory};
-ghost use Rattle.state.specs.Changes.{apply, changed, changed_all, closing, fits, forgotten, opened, put_all, put_back, received, returned, taken_all, taken_out, with_line, with_tickets};
+ghost use Rattle.state.specs.Changes.{apply, changed, changed_all, closing, fits, forgotten, opened, put_all, put_back, received, returned, taken_all, taken_out, with_asked, with_line, with_sold, with_tickets};
 ghost use Rattle.state.specs.Ready.{Ready, Seated, SeatedAll, Spent, Standing, trimming};
 ghost use Rattle.state.specs.States.{is_open, known, openable, ticket_of, tickets_left};
 ghost use Rattle.state.specs.Views.{view};
@@ -14,7 +14,7 @@ use super::Station;
 use super::sales::{forget_all, stale_count};
 use crate::record::Record;
 use choosing::party::Party;
-use giving::ids::{Number, StationId, Ticket};
+use giving::ids::{Ask, Number, StationId, Ticket};
 use giving::refusal::Refusal;
 use pieces::change::{Change, PutBack, TakeOut};
 use pieces::names::Train;
@@ -89,6 +89,7 @@ impl Station {
         };
         self.memory.open(slot, row.seats, word);
         self.slots[slot.index()] = Some(train);
+        self.ever_sold[slot.index()] = false;
     }
 
     // Opens a train that is not open.
@@ -120,9 +121,11 @@ impl Station {
         requires seated { SeatedAll (view self.old) party }
         requires left { tickets_left (view self.old) ≡ true }
         requires ready { vec_len self.old.tickets < vec_capacity self.old.tickets }
-        ensures { view self.new ≡ with_tickets (taken_all (view self.old) party) ((view self.old).tickets ++ Some party ∷ []) }
+        ensures { view self.new ≡ with_sold (with_tickets (taken_all (view self.old) party) ((view self.old).tickets ++ Some party ∷ [])) party.train }
     {
+        let slot = self.slot(Some(party.train)).unwrap();
         self.tickets.push_reserved(Some(party));
+        self.ever_sold[slot.index()] = true;
         self.change_all::<TakeOut>(party);
     }
 
@@ -136,13 +139,13 @@ impl Station {
         self.change_all::<PutBack>(sold);
     }
 
-    // Gives a piece that is held to another station.
-    fn give(&mut self, to: StationId, piece: Piece)
+    // Gives a piece that is held to another station, for an ask of its or for none.
+    fn give(&mut self, to: StationId, ask: Ask, piece: Piece)
         requires seated { Seated (view self.old) piece }
         requires goes { (givable (view self.old).channels to.0 && other (view self.old).me (view self.old).channels to.0) ≡ true }
-        ensures { view self.new ≡ with_line (taken_out (view self.old) piece) to (gave (line (view self.old).channels to.0) piece) }
+        ensures { view self.new ≡ with_line (taken_out (view self.old) piece) to (gave (line (view self.old).channels to.0) ask.0 piece) }
     {
-        self.channels.give(to, piece).unwrap();
+        self.channels.give(to, ask, piece).unwrap();
         self.take_out(piece);
     }
 
@@ -178,6 +181,21 @@ impl Station {
         self.channels.hear(from, number).unwrap();
     }
 
+    // Uses up a number for an ask.
+    fn ask(&mut self, ask: Ask)
+        ensures { view self.new ≡ with_asked (view self.old) ask.0 }
+    {
+        self.asked = ask;
+    }
+
+    // Answers an ask of another station's with nothing.
+    fn decline(&mut self, to: StationId, ask: Ask)
+        requires { other (view self.old).me (view self.old).channels to.0 ≡ true }
+        ensures { view self.new ≡ with_line (view self.old) to (declined (line (view self.old).channels to.0) ask.0) }
+    {
+        self.channels.decline(to, ask).unwrap();
+    }
+
     // Finds the memory for what a record adds.
     pub fn reserve(&mut self, entry: Record) -> Result<(), Refusal>
         ensures state { view self.new ≡ view self.old }
@@ -202,9 +220,11 @@ impl Station {
             Record::Closed(train) => self.close_train(train),
             Record::Sold(_, party) => self.sell(party),
             Record::Undone(ticket) => self.undo(ticket),
-            Record::Given(to, _, piece) => self.give(to, piece),
+            Record::Given(to, _, ask, piece) => self.give(to, ask, piece),
             Record::Taken(from, number, piece) => self.take(table, from, number, piece),
             Record::Heard(from, number) => self.hear(from, number),
+            Record::Asked(ask) => self.ask(ask),
+            Record::Declined(to, ask) => self.decline(to, ask),
         }
     }
 }

@@ -1,21 +1,23 @@
 // What a station can tell.
-ghost use Rattle.std.specs.Prelude.{◌≡◌, ◌<◌, ◌≤◌, true, ◌&&◌, length, IfOk, MatchOption, nat_lt};
-ghost use Rattle.choosing.specs.Choice.{group};
+ghost use Rattle.std.specs.Prelude.{◌≡◌, ◌-◌, ◌<◌, ◌≤◌, true, ◌&&◌, length, IfOk, IfSome, MatchOption, nat_lt};
+ghost use Rattle.choosing.specs.Choice.{beside, group};
 ghost use Rattle.choosing.specs.Parties.{party_of};
-ghost use Rattle.pieces.specs.Memory.{word_at};
+ghost use Rattle.pieces.specs.Counts.{tally_of};
+ghost use Rattle.pieces.specs.Memory.{train_at, word_at};
 ghost use Rattle.pieces.specs.Stretches.{holds};
-ghost use Rattle.state.specs.States.{begun, same, place_of, place, is_open, was_closed, known, openable, holds_piece, sold, tickets_left, ticket_of};
+ghost use Rattle.state.specs.States.{begun, same, place_of, place, is_open, was_closed, known, openable, holds_piece, has_sold, kept, sold, tickets_left, asks_left, ticket_of};
 ghost use Rattle.state.specs.Views.{view};
 
 use super::Station;
-use choosing::choice::choose_all_at;
+use choosing::choice::{choose_all_at, choose_beside_at, lowest_held_at};
 use choosing::party::Party;
 use giving::channels::Channels;
-use giving::ids::{StationId, Ticket};
+use giving::ids::{Ask, StationId, Ticket};
 use pieces::memory::{Memory, PLACES, Slot};
-use pieces::names::Train;
+use pieces::names::{Seat, Train};
 use pieces::piece::Piece;
 use pieces::stretch::Stretch;
+use pieces::tally::Tally;
 use pieces::trip::Trip;
 use std::alloc::{AllocError, Global};
 
@@ -25,6 +27,7 @@ pub const MOST_CLOSED: usize = 65536;
 impl Station {
     // Station `me` of so many, which has done nothing yet.
     pub fn new(heap: Global, me: StationId, stations: u16) -> Result<Station, AllocError>
+        requires { stations ≤ 256 }
         ensures { IfOk result (λ s. view s ≡ begun stations me.0) }
     {
         let slots = vec![in heap; None; PLACES]?;
@@ -33,9 +36,11 @@ impl Station {
         Ok(Station {
             slots,
             memory,
+            ever_sold: [false; PLACES],
             closed: Vec::new(heap),
             dropped: 0,
             tickets: Vec::new(heap),
+            asked: Ask(0),
             channels,
         })
     }
@@ -48,7 +53,8 @@ impl Station {
 
     // How many stations there are.
     pub fn stations(&self) -> usize
-        ensures { result ≡ length (view self.now).channels }
+        ensures value { result ≡ length (view self.now).channels }
+        ensures few { result ≤ 256 }
     {
         self.channels.len()
     }
@@ -127,6 +133,59 @@ impl Station {
         choose_all_at(&self.memory, slot, count, train, trip, people)
     }
 
+    // Whether a ticket of an open train was ever sold here.
+    pub fn has_sold(&self, train: Train) -> bool
+        ensures { result ≡ has_sold (view self.now) train }
+    {
+        self.slot(Some(train))
+            .is_some_and(|slot| self.ever_sold[slot.index()])
+    }
+
+    // The seat of a train that is kept when another station asks.
+    pub fn kept(&self, train: Train) -> Option<Seat>
+        ensures value { result ≡ kept (view self.now) train }
+        ensures near { IfSome result (λ seat. seat.0 < 400) }
+    {
+        let slot = self.slot(Some(train))?;
+        if !self.ever_sold[slot.index()] {
+            return None;
+        }
+        lowest_held_at(&self.memory, slot)
+    }
+
+    // The seats for so many people beside the one that is kept, or for as many as there are, by the rule of choice.
+    pub fn choose_beside(&self, train: Train, count: u16, trip: Trip, people: u8) -> Party
+        requires { (is_open (view self.now) train ≡ true) × ((count ≤ 400) × (people ≤ 8)) }
+        ensures { result ≡ party_of train trip (group people (beside (kept (view self.now) train) (word_at (view self.now).words (place (view self.now) train))) count trip.from.0 trip.to.0) }
+    {
+        let slot = self.slot(Some(train)).unwrap();
+        choose_beside_at(
+            &self.memory,
+            slot,
+            count,
+            self.kept(train),
+            train,
+            trip,
+            people,
+        )
+    }
+
+    // How much of an open train with so many stops is held.
+    pub fn tally(&self, train: Train, stops: u8) -> Tally
+        requires { (is_open (view self.now) train ≡ true) × ((2 ≤ stops) × (stops ≤ 30)) }
+        ensures { result ≡ tally_of (stops - 1) (train_at (view self.now).words (place (view self.now) train)) }
+    {
+        let slot = self.slot(Some(train)).unwrap();
+        self.memory.tally(slot, stops)
+    }
+
+    // The slots, each with the open train that has it.
+    pub fn slots(&self) -> &[Option<Train>]
+        ensures { result.now ≡ (view self.now).slots }
+    {
+        &self.slots
+    }
+
     // How many tickets were ever sold.
     pub fn sold_count(&self) -> u32
         ensures { result ≡ sold (view self.now) }
@@ -139,6 +198,20 @@ impl Station {
         ensures { result ≡ tickets_left (view self.now) }
     {
         self.sold_count() < u32::MAX
+    }
+
+    // The number of the last ask that was made.
+    pub fn asked(&self) -> Ask
+        ensures { result.0 ≡ (view self.now).asked }
+    {
+        self.asked
+    }
+
+    // Whether a number is left for an ask.
+    pub fn asks_left(&self) -> bool
+        ensures { result ≡ asks_left (view self.now) }
+    {
+        self.asked.0 < u32::MAX
     }
 
     // The tickets that are kept, in the order of their numbers.

@@ -11,7 +11,7 @@ pub write_gifts-requires : goal.write_gifts-requires
 write_gifts-requires c =
     let g = c.in-Gave in
     let j = c.args.journal.now in
-    let e = gifts_count g.to g.first.0 g.party in
+    let e = gifts_count g.to g.ask g.first.0 g.party in
     let r = subst (λ o. vec_len j + length (entries o) ≤ vec_capacity j) g.is c.requires.room in
     record {
       fits = subst (λ o. all_fit (table c.args.table.now) (view c.args.station.now) (entries o) ≡ true) g.is c.requires.fits;

@@ -9,7 +9,7 @@ use Rattle.timetable.specs.Tables.{table}
 
 abbrev pub invariant-loop-k : goal.invariant-loop-k
 invariant-loop-k l =
-    (all_fit (table l.table) (view l.station) (ahead l.to l.first.0 l.party l.k) ≡ true)
+    (all_fit (table l.table) (view l.station) (ahead l.to l.ask l.first.0 l.party l.k) ≡ true)
     × (vec_len l.journal + length (seats_of l.party) ≤ vec_capacity l.journal + l.k)
-    × (fold (apply (table l.table)) (view l.station) (ahead l.to l.first.0 l.party l.k) ≡ fold (apply (table l.table)) (view l.initial.station) (gifts l.to l.first.0 (pieces_of l.party)))
-    × (vec_items l.journal ++ ahead l.to l.first.0 l.party l.k ≡ vec_items l.initial.journal ++ gifts l.to l.first.0 (pieces_of l.party))
+    × (fold (apply (table l.table)) (view l.station) (ahead l.to l.ask l.first.0 l.party l.k) ≡ fold (apply (table l.table)) (view l.initial.station) (gifts l.to l.ask l.first.0 (pieces_of l.party)))
+    × (vec_items l.journal ++ ahead l.to l.ask l.first.0 l.party l.k ≡ vec_items l.initial.journal ++ gifts l.to l.ask l.first.0 (pieces_of l.party))

@@ -9,8 +9,8 @@ returns-in_err-message-clause-steps c = ∣ none ∣₁
 pub returns-in_err-place-clause-steps : goal.returns-in_err-place-clause-steps
 returns-in_err-place-clause-steps c = ∣ none ∣₁
 
-pub perform-answer-requires-clause-told : goal.perform-answer-requires-clause-told
-perform-answer-requires-clause-told c =
+pub perform-reply-requires-clause-told : goal.perform-reply-requires-clause-told
+perform-reply-requires-clause-told c =
     let m = c.in_ok-message.field-0.now in
     let found = c.in_ok-message.ensures.lookup in
     let there : c.args.at < length (vec_items c.args.self.now.said) = omega (arith, found.3.0, c.deref.ensures.len) in

@@ -7,7 +7,7 @@ use Rattle.rehearsal.proofs.world.World.new.Goals as goal
 
 pub loop-k-preserved : goal.loop-k-preserved
 loop-k-preserved c =
-    begun_next c.args.stations c.loop-k.k _ _ _ c.loop-k.invariant c.in_ok-push.ensures.items (c.in_ok-station.ensures ∙ ap (λ (m : ℕ). begun m c.loop-k.k) c.from.ensures) c.new-journal.ensures.items
+    begun_next c.args.stations c.loop-k.k _ _ _ c.loop-k.invariant c.in_ok-push.ensures.items (c.in_ok-station.ensures ∙ ap (λ (m : ℕ). begun m c.loop-k.k) c.from.ensures) c.new-journal.ensures.items c.in_ok-desk.ensures
 
 pub invariant_of-result-clause-lives : goal.invariant_of-result-clause-lives
 invariant_of-result-clause-lives c =

@@ -6,4 +6,4 @@ use Rattle.state.proofs.station.Station.new.Goals as goal
 pub returns : goal.returns
 returns c =
     same_state _ (begun c.args.stations c.args.me.0) (search rules) (c.in_ok-slots.ensures.items_if_clones_equal (λ y e. search rules)) c.in_ok-memory.ensures
-    (search rules) (search rules) (search rules) (search rules)
+    (search rules) (search rules) (search rules) (search rules) (search rules) (search rules)

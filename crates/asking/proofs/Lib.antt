@@ -1,0 +1,11 @@
+pub mod Asks
+pub mod Inquiries
+pub mod Listed
+pub mod Saying
+pub mod ToldPlaces
+pub mod LastTold
+pub mod OrderPlaces
+pub mod OrderRises
+pub mod TurnStations
+pub mod TurnTrains
+pub mod Rounds
