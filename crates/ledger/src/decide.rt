@@ -1,5 +1,8 @@
 // What each call comes to, by the state and the timetable alone. Nothing is changed here.
-ghost use Rattle.std.specs.Prelude.{◌≡◌, ◌≤◌, true, IfOk, Some};
+ghost use Rattle.std.specs.Prelude.{◌≡◌, ◌≤◌, true, min, IfOk, Ok, Some};
+ghost use Rattle.giving.specs.Calls.{givable, room, unless};
+ghost use Rattle.giving.specs.Posts.{chans};
+ghost use Rattle.giving.specs.declared.refusal.Refusal.TheVariants.{Full};
 ghost use Rattle.ledger.specs.Decisions.{decided, decided_open, granting, judged};
 ghost use Rattle.ledger.specs.declared.input.Input.TheVariants.{Close, Sell, Undo, Give, Take, Hear, Grant};
 ghost use Rattle.ledger.specs.declared.input.Input.TheVariants as asked;
@@ -10,6 +13,7 @@ ghost use Rattle.timetable.specs.Tables.{table as rows_of};
 
 use crate::input::{Input, Outcome};
 use choosing::party::{MOST, Party};
+use giving::channels::Channels;
 use giving::ids::{Ask, Number, StationId, Ticket};
 use giving::refusal::Refusal;
 use pieces::demand::Demand;
@@ -86,6 +90,16 @@ fn decide_undo(station: &Station, table: &Timetable, ticket: Ticket) -> Result<O
     Ok(Outcome::Done(Record::Undone(ticket)))
 }
 
+// For how many of the people seats may be given to a station, as long as a piece more may wait and has a number.
+fn most_given(channels: &Channels, to: StationId, people: u8) -> Result<u8, Refusal>
+    ensures { result ≡ unless (givable (chans channels.now) to.0) Full (Ok (min people (room (chans channels.now) to.0))) }
+{
+    if !channels.is_roomy() || !channels.is_numbered(to) {
+        return Err(Refusal::Full);
+    }
+    Ok(u32::from(people).min(channels.room(to)) as u8)
+}
+
 // As many seats are given as can be taken, and as may wait, under the channel's next numbers.
 fn decide_give(
     station: &Station,
@@ -97,13 +111,10 @@ fn decide_give(
 {
     let (row, trip) = judge(station, table, demand)?;
     let channels = station.channels();
-    if !channels.is_roomy() || !channels.is_numbered(to) {
-        return Err(Refusal::Full);
-    }
+    let count = most_given(channels, to, demand.people)?;
     if !channels.is_other(to) {
         return Err(Refusal::NoSuchStation);
     }
-    let count = u32::from(demand.people).min(channels.room(to)) as u8;
     let party = station.choose(demand.train, row.seats, trip, count);
     Ok(Outcome::Gave(to, channels.next_number(to), Ask(0), party))
 }
@@ -135,10 +146,7 @@ fn grant(
     ensures { result ≡ granting (view station.now) from ask demand (Some (row, trip)) }
 {
     let channels = station.channels();
-    if !channels.is_roomy() || !channels.is_numbered(from) {
-        return Err(Refusal::Full);
-    }
-    let count = u32::from(demand.people).min(channels.room(from)) as u8;
+    let count = most_given(channels, from, demand.people)?;
     let party = station.choose_beside(demand.train, row.seats, trip, count);
     if party.len() == 0 {
         return Ok(Outcome::Done(Record::Declined(from, ask)));
