@@ -22,3 +22,4 @@ pub mod Arrive
 pub mod Grow
 pub mod Asked
 pub mod Bridge
+pub mod Tallies

@@ -1,5 +1,5 @@
 -- How a sale, a gift and an undoing are answered, by what the station holds.
-use Rattle.std.specs.Prelude.{◌≡◌, ℕ, ◌+◌, ◌<◌, ◌≤◌, min, true, false, cond, ◌⊎◌, List, length, take, Some, None, Option, Ok, Err, slice_index_or}
+use Rattle.std.specs.Prelude.{◌≡◌, ℕ, suc, ◌+◌, ◌<◌, ◌≤◌, min, true, false, cond, ◌⊎◌, List, length, take, Some, None, Option, Ok, Err, slice_index_or}
 use Rattle.asking.specs.Events.{Response}
 use Rattle.asking.specs.Minds.{Mind}
 use Rattle.asking.specs.Told.{told_by}
@@ -69,6 +69,12 @@ pub record SeatedOf (f : ℕ → ℕ) (d : Demand) (m : ℕ) (p : Party) : Type 
 
 abbrev pub Seated : State → Demand → (m : ℕ) → Party → Type 0
 Seated x d m p = SeatedOf (words_of x d.train) d m p
+
+-- of the numbers below n just k have P
+pub data HowMany (P : ℕ → Type 0) : (n k : ℕ) → Type 0 where
+  none : HowMany P 0 0
+  one : (n k : ℕ) → P n → HowMany P n k → HowMany P (suc n) (suc k)
+  past : (n k : ℕ) → (P n → ⊥) → HowMany P n k → HowMany P (suc n) k
 
 -- ---- what is left
 

@@ -6,6 +6,7 @@ use Rattle.choosing.specs.declared.party.Party.{Party}
 use Rattle.asking.specs.Events.{Response, resolved}
 use Rattle.asking.specs.Minds.{Mind}
 use Rattle.asking.specs.Replies.{lasting, minded, spoken, written}
+use Rattle.asking.specs.Ticks.{tally_by}
 use Rattle.asking.specs.declared.event.Event.{Event}
 use Rattle.asking.specs.declared.event.Event.TheVariants.{Call}
 use Rattle.giving.specs.declared.ids.Ask.{Ask}
@@ -23,7 +24,7 @@ use Rattle.ledger.specs.declared.input.Input.TheVariants as input
 use Rattle.ledger.specs.declared.input.Outcome.TheVariants.{Done}
 use Rattle.state.specs.declared.record.Record.{Record}
 use Rattle.state.specs.declared.record.Record.TheVariants.{Sold, Given, Asked, Declined}
-use Rattle.network.specs.Answers.{Wanted, Seated, SaleAnswer, GiftAnswer, AskAnswer, TurnAnswer, UndoAnswer, covering}
+use Rattle.network.specs.Answers.{Wanted, Seated, SaleAnswer, GiftAnswer, AskAnswer, TurnAnswer, UndoAnswer, HowMany, covering}
 use Rattle.network.specs.Places.{holding, places, under_way}
 use Rattle.network.specs.Worlds.{World, journal, state, given_for, Steps, Reach, Carries}
 use Rattle.pieces.specs.Parts.{blank, has}
@@ -127,6 +128,12 @@ AnswersTrue = (n : ℕ) (tb : Table) (w : World) → Reach n tb w → (i : ℕ) 
 -- The number of an ask is never used again: of two in a station's journal the later one has the higher number.
 abbrev pub AsksRise : Type 0
 AsksRise = (n : ℕ) (tb : Table) (w : World) → Reach n tb w → (i : ℕ) (xs ys zs : List Record) (a b : Ask) → journal w i ≡ xs ++ Asked a ∷ (ys ++ Asked b ∷ zs) → a.0 < b.0
+
+-- What a station tells of an open train is on how many of its seats it holds the whole line, each stretch of it, and on how many any stretch.
+abbrev pub TellsTrue : Type 0
+TellsTrue = (n : ℕ) (tb : Table) (w : World) → Reach n tb w → (i : ℕ) (t : Train) (r : Row) → i < n → tb t.0 ≡ Some r → is_open (state n tb w i) t ≡ true →
+    HowMany (λ s. (u : ℕ) → u < stretches r → holding t s u (state n tb w i) ≡ true) r.seats (tally_by (tb t.0) (state n tb w i) t).whole
+    × HowMany (λ s. (u : ℕ) × (holding t s u (state n tb w i) ≡ true)) r.seats (tally_by (tb t.0) (state n tb w i) t).any
 
 -- ---- what is on its way
 

@@ -1,7 +1,7 @@
 // Stations, each with its journal, and all that was ever said between them: each stretch of each seat is in one place.
 #![tactic(auto)]
 
-ghost use Rattle.network.specs.Promises.{OnePlace, NeverTwice, NumbersRise, OnlyWhatIs, SellsAlone, Sells, Gives, Undoes, AsksFirst, Grants, Keeps, KeepsNone, AnswersOnce, AnswersTrue, AsksRise, Arrives, Grows, Runs};
+ghost use Rattle.network.specs.Promises.{OnePlace, NeverTwice, NumbersRise, OnlyWhatIs, SellsAlone, Sells, Gives, Undoes, AsksFirst, Grants, Keeps, KeepsNone, AnswersOnce, AnswersTrue, AsksRise, TellsTrue, Arrives, Grows, Runs};
 
 pub mod place;
 
@@ -78,6 +78,11 @@ pub fn answers_true_stands()
 // The number of an ask is never used again.
 pub fn asks_rise_stands()
     ensures { AsksRise }
+{}
+
+// What a station tells of a train is what it holds.
+pub fn tells_true_stands()
+    ensures { TellsTrue }
 {}
 
 // What is on its way arrives, by saying and taking alone.
