@@ -1,7 +1,8 @@
 -- The trains that are told of, and the stations that are told.
 -- Assumes nothing.
 use Rattle.std.proofs.Common.{◌≡◌, ℕ, zero, suc, ◌+◌, ◌-◌, ◌*◌, ◌<◌, ◌≤◌, Bool, true, false, cond, eqb, ltb, List, [], ◌∷◌, ◌++◌, length, fold, Some, None, Option, is_some, sym, refl, ap, ◌∙◌, append_assoc, append-nil, length-append, zero-add, add-mul, one-mul, mul-le-mul, mul-le-mul_right, arith}
-use Rattle.asking.specs.Turns.{placed, in_order, others, rowed, open_trains}
+use Rattle.asking.specs.Turns.{placed, in_order, by_number, others, rowed, open_trains}
+use Rattle.asking.proofs.OrderRises.{each_by, each_ordered}
 use Rattle.asking.proofs.Saying.{flat_counts, flat_times}
 use Rattle.asking.specs.Ticks.{reminder, reminders, reminders_to, telling, tellings, tellings_to}
 use Rattle.giving.specs.Channels.{Chan, all_waiting, fresh, line}
@@ -32,23 +33,6 @@ module _ {X : Type 0} (lt : X → X → Bool) where
   pub in_order_length : (xs : List X) → length (in_order lt xs) ≡ length xs
   in_order_length xs = folded_length [] xs ∙ zero-add (length xs)
 
-  module _ (P : X → Type 0) where
-    placed_all : (x : X) (ys : List X) → P x → AllByRecursion P ys → AllByRecursion P (placed lt x ys)
-    placed_all x [] p h = (p, tt)
-    placed_all x (y ∷ ys) p h =
-        elim (lt x y) as (λ b. AllByRecursion P (cond b (x ∷ y ∷ ys) (y ∷ placed lt x ys))) [ true ↦ (p, h) | false ↦ (h.0, placed_all x ys p h.1) ]
-
-    folded_all : (zs xs : List X) → AllByRecursion P zs → AllByRecursion P xs → AllByRecursion P (fold (λ ys x. placed lt x ys) zs xs)
-    folded_all zs [] g h = g
-    folded_all zs (x ∷ xs) g h = folded_all (placed lt x zs) xs (placed_all x zs h.0 g) h.1
-
-    in_order_all : (xs : List X) → AllByRecursion P xs → AllByRecursion P (in_order lt xs)
-    in_order_all xs h = folded_all [] xs tt h
-
-all_by : {X : Type 0} (P Q : X → Type 0) → ((x : X) → P x → Q x) → (xs : List X) → AllByRecursion P xs → AllByRecursion Q xs
-all_by P Q f [] h = tt
-all_by P Q f (x ∷ xs) h = (f x h.0, all_by P Q f xs h.1)
-
 -- ---- trains
 
 -- open at a station with these slots, and in the timetable
@@ -66,8 +50,8 @@ module _ (tb : Table) where
 
   rowed_all : (xs : List (Option Train)) → AllByRecursion (Listed tb xs) (rowed tb xs)
   rowed_all [] = tt
-  rowed_all (None ∷ ys) = all_by (Listed tb ys) (Listed tb (None ∷ ys)) (behind None ys) (rowed tb ys) (rowed_all ys)
-  rowed_all (Some t ∷ ys) = go (all_by (Listed tb ys) (Listed tb (Some t ∷ ys)) (behind (Some t) ys) (rowed tb ys) (rowed_all ys)) (is_some (tb t.0)) refl
+  rowed_all (None ∷ ys) = each_by (Listed tb ys) (Listed tb (None ∷ ys)) (behind None ys) (rowed tb ys) (rowed_all ys)
+  rowed_all (Some t ∷ ys) = go (each_by (Listed tb ys) (Listed tb (Some t ∷ ys)) (behind (Some t) ys) (rowed tb ys) (rowed_all ys)) (is_some (tb t.0)) refl
     where
       go : AllByRecursion (Listed tb (Some t ∷ ys)) (rowed tb ys) → (b : Bool) → is_some (tb t.0) ≡ b → AllByRecursion (Listed tb (Some t ∷ ys)) (cond b (t ∷ rowed tb ys) (rowed tb ys))
       go rest true e = ((ap (λ (b : Bool). ltb (cond b 0 (suc (place_of ys (Some t)))) (suc (length ys))) (eq-eqb t.0 t.0 refl) ∙ lt-ltb 0 (suc (length ys)) (omega arith), e), rest)
@@ -80,11 +64,14 @@ module _ (tb : Table) where
       let h = rowed_length ys in
       elim (is_some (tb t.0)) as (λ b. length (cond b (t ∷ rowed tb ys) (rowed tb ys)) ≤ suc (length ys)) [ true ↦ omega arith | false ↦ omega arith ]
 
+  pub trains_each : (s : State) → AllByRecursion (Listed tb s.slots) (open_trains tb s)
+  trains_each s = each_ordered by_number (Listed tb s.slots) [] (rowed tb s.slots) tt (rowed_all s.slots)
+
   pub trains_listed : (s : State) → All (Listed tb s.slots) (open_trains tb s)
-  trains_listed s = All-from_recursion (Listed tb s.slots) (open_trains tb s) (in_order_all (λ (x y : Train). ltb x.0 y.0) (Listed tb s.slots) (rowed tb s.slots) (rowed_all s.slots))
+  trains_listed s = All-from_recursion (Listed tb s.slots) (open_trains tb s) (trains_each s)
 
   pub trains_few : (s : State) → length (open_trains tb s) ≤ length s.slots
-  trains_few s = omega (arith, in_order_length (λ (x y : Train). ltb x.0 y.0) (rowed tb s.slots), rowed_length s.slots)
+  trains_few s = omega (arith, in_order_length by_number (rowed tb s.slots), rowed_length s.slots)
 
 -- ---- stations
 

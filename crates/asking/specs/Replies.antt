@@ -1,5 +1,6 @@
 -- What becomes of the station's journal and mind, and what it says.
-use Rattle.std.specs.Prelude.{◌+◌, ◌%◌, ◌⊎◌, List, [], ◌∷◌, length, fold, Some, None, Option, Ok, Err, Vec}
+use Rattle.std.specs.Prelude.{ℕ, ◌+◌, ◌%◌, ◌⊎◌, List, [], ◌∷◌, length, fold, Some, None, Option, Ok, Err, Vec}
+use Rattle.giving.specs.declared.ids.StationId.{StationId}
 use Rattle.giving.specs.declared.message.Body.TheVariants as body
 use Rattle.giving.specs.declared.message.Message.{Message}
 use Rattle.ledger.specs.Calls.{Filled, Short}
@@ -18,6 +19,7 @@ use Rattle.asking.specs.declared.desk.Desk.{Desk}
 use Rattle.asking.specs.declared.event.Event.{Event}
 use Rattle.asking.specs.declared.event.Event.TheVariants.{Call, Answered, Told, Tick}
 use Rattle.asking.specs.declared.event.Reply.TheVariants.{Came, Asks, Noted, Ticked}
+use Rattle.pieces.specs.declared.demand.Demand.{Demand}
 use Rattle.state.specs.Changes.{apply}
 use Rattle.state.specs.States.{State}
 use Rattle.state.specs.Views.{view}
@@ -66,10 +68,14 @@ minded s m e r = m
 
 -- ---- what is said, by the state and the mind afterwards
 
+-- i asks j, under the number of the last ask that it made
+abbrev pub request : State → (i : ℕ) → StationId → Demand → Message
+request s i j d = record { from = record { 0 = i }; to = j; body = body.Asked (record { 0 = s.asked }) d }
+
 -- the one that is asked now is asked for what is still wanted
 abbrev pub query : State → Option Inquiry → List Message
 query s None = []
-query s (Some q) = record { from = record { 0 = s.me }; to = first q.order; body = body.Asked (record { 0 = s.asked }) q.demand } ∷ []
+query s (Some q) = request s s.me (first q.order) q.demand ∷ []
 
 abbrev pub spoken : Table → State → Mind → Event → Response → List Message
 spoken tb s m (Call i) (Ok (Came o)) = replies s i o

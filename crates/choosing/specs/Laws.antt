@@ -28,8 +28,8 @@ IsLowest = (f : ℕ → ℕ) (n : ℕ) →
 abbrev pub IsLeft : Type 0
 IsLeft = (m : ℕ) (f : ℕ → ℕ) (n a b : ℕ) (s : Seat) → a < b → among s.0 (group m (beside (Some s) f) n a b) ≡ false
 
-abbrev pub Keeps : Type 0
-Keeps = IsLowest × IsLeft
+abbrev pub KeptBack : Type 0
+KeptBack = IsLowest × IsLeft
 
 abbrev pub Choices : Type 0
-Choices = OneChoice × AsMany × Keeps
+Choices = OneChoice × AsMany × KeptBack

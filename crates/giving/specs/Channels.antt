@@ -25,7 +25,7 @@ gave c a p = record c { given = c.given + 1; answered = max c.answered a; waitin
 
 -- an ask is answered, with nothing
 abbrev pub declined : Chan → ℕ → Chan
-declined c a = record c { answered = a }
+declined c a = record c { answered = max c.answered a }
 
 -- the other station has taken all up to a number
 abbrev pub heard_to : Chan → ℕ → Chan

@@ -51,11 +51,3 @@ impl fmt::Display for Ticket {
 // The number of an ask of a station's, from 1; 0 where none is meant.
 #[derive(Clone, Copy, Debug, PartialEq, Eq, PartialOrd, Ord, Drop)]
 pub struct Ask(pub u32);
-
-impl fmt::Display for Ask {
-    ghost output = { λ a. Some (decimal a.0) };
-
-    fn fmt<W: fmt::Write>(&self, f: &mut fmt::Formatter<W>) -> fmt::Result {
-        write!(f, "{}", self.0)
-    }
-}

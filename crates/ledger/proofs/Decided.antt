@@ -305,20 +305,6 @@ module _ (tb : Table) (s : State) where
   pub gave_is : (i : Input) (to : StationId) (n : Number) (a : Ask) (p : Party) → decided tb s i ≡ Ok (Gave to n a p) → Gives s i to n a p
   gave_is i to n a p h = (subst (Sound tb s i) h (sound i)).0
 
-  -- others are asked under the next number
-  pub asks_is : (d : Demand) (e : Record) → decided tb s (input.Ask d) ≡ Ok (Done e) → Asked (record { 0 = s.asked + 1 }) ≡ e
-  asks_is d e h = subst P h by_grounds
-    where
-      P : Answer → Type 0
-      P (Ok (Done e)) = Asked (record { 0 = s.asked + 1 }) ≡ e
-      P o = Unit
-
-      by_grounds : P (decided tb s (input.Ask d))
-      by_grounds =
-          met_by P (λ _. tt) (tb d.train.0) (trip_from d.from d.to) d.people (is_open s d.train) (λ r t. asking s) (λ r t w h l o.
-          unless_by P (λ _. tt) (asks_left s) Full _ (λ g.
-          unless_by P (λ _. tt) (ltb 1 (length s.channels)) NoSuchStation _ (λ x. refl)))
-
   -- what a call came to that was not refused
   module _ (i : Input) (o : Outcome) (h : decided tb s i ≡ Ok o) where
     pub outcome_fits : all_fit tb s (entries o) ≡ true

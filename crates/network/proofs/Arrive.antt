@@ -14,7 +14,7 @@ use Rattle.network.proofs.Sum.{sum_to, sum_cong, sum_at}
 use Rattle.network.specs.Places.{under_way}
 use Rattle.network.specs.Promises.{Settled, Arrives}
 use Rattle.asking.specs.Ticks.{reminder}
-use Rattle.network.specs.Worlds.{World, journal, state, channel, Told, wrote, spoke, Step, writes, reminds, more, Reach, Carry, said, taken, Carries, here, onward}
+use Rattle.network.specs.Worlds.{World, journal, state, channel, Backed, wrote, spoke, Step, writes, reminds, more, Reach, Carry, said, taken, Carries, here, onward}
 use Rattle.pieces.specs.Parts.{blank}
 use Rattle.pieces.specs.declared.names.Train.{Train}
 use Rattle.pieces.specs.declared.piece.Piece.{Piece}
@@ -128,7 +128,7 @@ module _ (n : ℕ) (tb : Table) where
     abbrev spoken : World
     spoken = spoke w message
 
-    told : Told spoken.said j entry
+    told : Backed spoken.said j entry
     told = Memᴰ.append_right w.said (Memᴰ.head (rw waits.1 refl))
 
     abbrev after : World

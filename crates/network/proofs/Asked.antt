@@ -9,6 +9,7 @@ use Rattle.giving.specs.declared.message.Body.{Body}
 use Rattle.giving.specs.declared.message.Body.TheVariants as body
 use Rattle.giving.specs.declared.message.Message.{Message}
 use Rattle.giving.specs.declared.refusal.Refusal.TheVariants.{NoSuchStation}
+use Rattle.asking.specs.Replies.{request}
 use Rattle.asking.specs.Ticks.{reminder, telling}
 use Rattle.network.proofs.Linked.{Intact, ok_reach, every, wrote_ind, wrote_state}
 use Rattle.network.proofs.Lists.{set_ind, all_mem}
@@ -18,7 +19,7 @@ use Rattle.ledger.proofs.Decided.{heeded_by, unless_by}
 use Rattle.ledger.specs.Decisions.{Answer, after, answering, messages, records}
 use Rattle.ledger.specs.declared.input.Input.TheVariants.{Grant}
 use Rattle.network.specs.Promises.{AnswersOnce, AnswersTrue, Settles}
-use Rattle.network.specs.Worlds.{World, journal, state, channel, Told, wrote, spoke, account, request, result, is_gift, given_for, Step, writes, reminds, accounts, asks, answers, tells, none, more, Reach, beginning}
+use Rattle.network.specs.Worlds.{World, journal, state, channel, Backed, wrote, spoke, account, settlement, is_gift, given_for, Step, writes, reminds, accounts, asks, answers, tells, none, more, Reach, beginning}
 use Rattle.state.specs.Changes.{apply, fits}
 use Rattle.pieces.specs.Parts.{trip_from}
 use Rattle.pieces.specs.declared.demand.Demand.{Demand}
@@ -110,7 +111,7 @@ module _ (n : ℕ) (tb : Table) where
   more_summed w m h s = All-push (Sum n tb w) w.said m h s
 
   -- no piece is given for an ask whose answer was said
-  none_more : (w : World) (i : ℕ) (e : Record) (j : StationId) (a : Ask) (m : ℕ) → Told w.said i e → Memᴰ (record { from = record { 0 = i }; to = j; body = body.Answered a m }) w.said → is_gift j a e ≡ false
+  none_more : (w : World) (i : ℕ) (e : Record) (j : StationId) (a : Ask) (m : ℕ) → Backed w.said i e → Memᴰ (record { from = record { 0 = i }; to = j; body = body.Answered a m }) w.said → is_gift j a e ≡ false
   none_more w i (Given to k b p) j a m t h =
       false_from_ne_true (is_gift j a (Given to k b p)) (λ g.
       let (u, v) = and_parts (eqb to.0 j.0) (eqb b.0 a.0) g in
@@ -135,7 +136,7 @@ module _ (n : ℕ) (tb : Table) where
   summed_step (reminds w i j k l) ok h = more_summed w (reminder (state n tb w i) i j k) h tt
   summed_step (accounts w i j) ok h = more_summed w (account (state n tb w i) i j) h tt
   summed_step (asks w i j d) ok h = more_summed w (request (state n tb w i) i j d) h tt
-  summed_step (answers w i j l) ok h = more_summed w (result (state n tb w i) (journal w i) i j) h (l, omega arith, refl)
+  summed_step (answers w i j l) ok h = more_summed w (settlement (state n tb w i) (journal w i) i j) h (l, omega arith, refl)
   summed_step (tells w i j t o) ok h = more_summed w (telling tb (state n tb w i) i j t) h tt
 
   pub summed : {w : World} → Reach n tb w → All (Sum n tb w) w.said

@@ -1,6 +1,6 @@
 -- What a station decides and says is a run of steps.
 -- Assumes nothing.
-use Rattle.std.proofs.Common.{◌≡◌, ℕ, zero, suc, ◌+◌, ◌<◌, ◌≤◌, Bool, true, false, cond, eqb, ltb, leb, ◌⊎◌, List, [], ◌∷◌, ◌++◌, map, length, get_or, set, Some, None, fold, Option, sym, refl, ap, ◌∙◌, subst, inl, inr, ⊎_elim, is_some, append_assoc, append-nil, arith, length-append, length-drop, length-set, get_or-set_same, Ok, Err}
+use Rattle.std.proofs.Common.{◌≡◌, ℕ, zero, suc, ◌+◌, ◌<◌, ◌≤◌, Bool, true, false, cond, eqb, leb, ◌⊎◌, List, [], ◌∷◌, ◌++◌, map, length, get_or, set, Some, None, fold, Option, sym, refl, ap, ◌∙◌, subst, inl, inr, append_assoc, append-nil, arith, length-append, length-drop, length-set, get_or-set_same, Ok, Err}
 use Rattle.std.proofs.lemmas.List.{set-get_or, set-set, get_or_at, length-map}
 use mathlib.Core.List.{Memᴰ}
 use Rattle.asking.specs.Events.{Response, resolved, turned, under_way}
@@ -8,9 +8,12 @@ use Rattle.asking.specs.Minds.{Mind, Inquiry, advanced, first, wanted}
 use Rattle.asking.specs.Replies.{after_ask, minded, query}
 use Rattle.asking.specs.Ticks.{reminder, reminders, reminders_to, telling, tellings, tellings_to, ticked}
 use Rattle.asking.specs.Told.{sensible}
-use Rattle.asking.specs.Turns.{open_trains, others, placed, rowed}
+use Rattle.asking.specs.Turns.{open_trains, others}
+use Rattle.asking.proofs.Asks.{asks_is}
+use Rattle.asking.proofs.Listed.{Listed, trains_each}
+use Rattle.asking.proofs.OrderRises.{each_by}
 use Rattle.asking.specs.declared.event.Event.{Event}
-use Rattle.asking.specs.declared.event.Event.TheVariants.{Call, Answered, Told as Tells, Tick}
+use Rattle.asking.specs.declared.event.Event.TheVariants.{Call, Answered, Told, Tick}
 use Rattle.asking.specs.declared.event.Reply.TheVariants.{Came, Noted, Ticked}
 use Rattle.choosing.specs.Parties.{pieces_of, seats_of}
 use Rattle.choosing.specs.declared.party.Party.{Party}
@@ -23,7 +26,7 @@ use Rattle.giving.specs.declared.message.Body.TheVariants as body
 use Rattle.giving.specs.declared.message.Message.{Message}
 use Rattle.giving.specs.declared.refusal.Refusal.{Refusal}
 use Rattle.giving.specs.declared.refusal.Refusal.TheVariants.{Malformed, NoSuchStation}
-use Rattle.ledger.proofs.Decided.{Gifts, Tells as Writes, cond_by, decided_fits, told_is, gave_is, asks_is, opens_is, opens_gives, opens_admitted, opens_one, unless_by}
+use Rattle.ledger.proofs.Decided.{Gifts, Tells as Writes, cond_by, decided_fits, told_is, gave_is, opens_is, opens_gives, opens_admitted, opens_one, unless_by}
 use Rattle.ledger.specs.Decisions.{Answer, decided, decided_open, entries, gifts, listing, records, notices, receipt, reckoning, answered, replies, for_memory}
 use Rattle.ledger.specs.declared.input.Input.{Input}
 use Rattle.ledger.specs.declared.input.Input.TheVariants.{Close, Sell, Undo, Give, Take, Hear, Grant}
@@ -36,18 +39,16 @@ use Rattle.network.proofs.Grow.{grows}
 use Rattle.network.proofs.Linked.{Intact, ok_reach}
 use Rattle.network.proofs.Lists.{all_mem}
 use Rattle.network.proofs.Local.{fits_declined, fits_given}
-use Rattle.network.proofs.Slots.{place_first}
 use Rattle.network.specs.Promises.{Heeds, HeedsAll, called, opened_by, Runs, Extends}
-use Rattle.network.specs.Worlds.{World, journal, state, channel, Told, wrote, spoke, account, result, given_for, is_gift, Step, writes, reminds, accounts, asks, answers, tells, Steps, none, more, Reach}
+use Rattle.network.specs.Worlds.{World, journal, state, channel, Backed, wrote, spoke, account, settlement, given_for, is_gift, Step, writes, reminds, accounts, asks, answers, tells, Steps, none, more, Reach}
 use Rattle.pieces.specs.Parts.{blank}
 use Rattle.pieces.specs.declared.demand.Demand.{Demand}
-use Rattle.pieces.specs.declared.names.Train.{Train}
 use Rattle.pieces.specs.declared.piece.Piece.{Piece}
 use Rattle.state.specs.Changes.{all_fit, apply, fits}
-use Rattle.state.specs.States.{State, begun, is_open, place_of}
+use Rattle.state.specs.States.{State, begun, is_open}
 use Rattle.state.specs.declared.record.Record.{Record}
 use Rattle.state.specs.declared.record.Record.TheVariants.{Given, Asked, Declined}
-use Rattle.std.proofs.lemmas.Bool.{and_parts, and_from, cases_eq, cases_lt, cond_both, ne_eqb, eq-eqb, lt-ltb, ltb-true}
+use Rattle.std.proofs.lemmas.Bool.{and_parts, and_from, cases_eq, cond_both, ne_eqb, eq-eqb, ltb-true}
 use Rattle.std.proofs.lemmas.List.Sums.{fold-append}
 use Rattle.std.specs.List.{AllByRecursion, flat_map, range_with_len}
 use Rattle.timetable.proofs.Same.{same_row}
@@ -79,14 +80,6 @@ module _ {X : Type 0} (P : X → Type 0) where
     all_flat f [] h g = tt
     all_flat f (y ∷ ys) h g = all_append (f y) (flat_map f ys) (h y g.0) (all_flat f ys h g.1)
 
-  all_placed : (lt : X → X → Bool) (x : X) (ys : List X) → P x → AllByRecursion P ys → AllByRecursion P (placed lt x ys)
-  all_placed lt x [] h g = (h, tt)
-  all_placed lt x (y ∷ ys) h g = cond_both (lt x y) (x ∷ y ∷ ys) (y ∷ placed lt x ys) (AllByRecursion P) (λ _. (h, (g.0, g.1))) (λ _. (g.0, all_placed lt x ys h g.1))
-
-  all_ordered : (lt : X → X → Bool) (ys xs : List X) → AllByRecursion P ys → AllByRecursion P xs → AllByRecursion P (fold (λ ys x. placed lt x ys) ys xs)
-  all_ordered lt ys [] h g = h
-  all_ordered lt ys (x ∷ xs) h g = all_ordered lt (placed lt x ys) xs (all_placed lt x ys g.0 h) g.1
-
 any_all : {X : Type 0} (xs : List X) → AllByRecursion (λ _. Unit {0}) xs
 any_all [] = tt
 any_all (x ∷ xs) = (tt, any_all xs)
@@ -98,25 +91,25 @@ ranged a (suc n) b h = (omega arith, ranged (a + 1) n b (omega arith))
 -- ---- what is told is told of what is written
 
 module _ (ms : List Message) (i : ℕ) where
-  told_one : (x : Input) (e : Record) → Writes x e → Heeds ms i x → Told ms i e
-  told_one (Close t) e h g = subst (Told ms i) h tt
-  told_one (Sell d) e (n, p, h) g = subst (Told ms i) h tt
-  told_one (Undo n) e h g = subst (Told ms i) h tt
+  told_one : (x : Input) (e : Record) → Writes x e → Heeds ms i x → Backed ms i e
+  told_one (Close t) e h g = subst (Backed ms i) h tt
+  told_one (Sell d) e (n, p, h) g = subst (Backed ms i) h tt
+  told_one (Undo n) e h g = subst (Backed ms i) h tt
   told_one (Give to d) e h g = absurd h
-  told_one (Take from n p) e h g = subst (Told ms i) h g
-  told_one (Hear from n) e h g = subst (Told ms i) h g
-  told_one (input.Ask d) e (a, h) g = subst (Told ms i) h tt
-  told_one (Grant from a d) e h g = subst (Told ms i) h tt
+  told_one (Take from n p) e h g = subst (Backed ms i) h g
+  told_one (Hear from n) e h g = subst (Backed ms i) h g
+  told_one (input.Ask d) e (a, h) g = subst (Backed ms i) h tt
+  told_one (Grant from a d) e h g = subst (Backed ms i) h tt
 
   -- no answer to the ask was said
   abbrev Open : StationId → Ask → Type 0
   Open to a = (m : ℕ) → Memᴰ (record { from = record { 0 = i }; to = to; body = body.Answered a m }) ms → ⊥
 
-  told_gifts : (to : StationId) (a : Ask) (n : ℕ) (ps : List Piece) → Open to a → AllByRecursion (Told ms i) (gifts to a n ps)
+  told_gifts : (to : StationId) (a : Ask) (n : ℕ) (ps : List Piece) → Open to a → AllByRecursion (Backed ms i) (gifts to a n ps)
   told_gifts to a n [] h = tt
   told_gifts to a n (p ∷ ps) h = (h, told_gifts to a (suc n) ps h)
 
-  told_all : (tb : Table) (s : State) (x : Input) (o : Answer) → o ≡ decided tb s x → Heeds ms i x → ((to : StationId) (a : Ask) (p : Party) → Gifts s x to a p → Open to a) → AllByRecursion (Told ms i) (records o)
+  told_all : (tb : Table) (s : State) (x : Input) (o : Answer) → o ≡ decided tb s x → Heeds ms i x → ((to : StationId) (a : Ask) (p : Party) → Gifts s x to a p → Open to a) → AllByRecursion (Backed ms i) (records o)
   told_all tb s x (Ok (Done e)) d h u = (told_one x e (told_is tb s x e (sym d)) h, tt)
   told_all tb s x (Ok (Gave to n a p)) d h u = told_gifts to a n.0 (pieces_of p) (u to a p (gave_is tb s x to n a p (sym d)).whom)
   told_all tb s x o d h u = tt
@@ -145,7 +138,7 @@ module _ (n : ℕ) (tb : Table) (i : ℕ) (l : i < n) where
         (set-set w.journals i (journal w i ++ e ∷ []) (journal (wrote w i e) i ++ es)
         ∙ ap (set w.journals i) (ap (λ j. j ++ es) (journal_then (e ∷ [])) ∙ append_assoc (journal w i) (e ∷ []) es))
 
-  write_all : (es : List Record) (w : World) → length w.journals ≡ n → AllByRecursion (Told w.said i) es → all_fit tb (state n tb w i) es ≡ true → Steps n tb w (wrote_all w es)
+  write_all : (es : List Record) (w : World) → length w.journals ≡ n → AllByRecursion (Backed w.said i) es → all_fit tb (state n tb w i) es ≡ true → Steps n tb w (wrote_all w es)
   write_all [] w c t f = rw (wrote_none w) none
   write_all (e ∷ es) w c t f =
       let (a, b) = and_parts (fits tb (state n tb w i) e) (all_fit tb (apply tb (state n tb w i) e) es) f in
@@ -234,7 +227,7 @@ module _ (n : ℕ) (tb : Table) (i : ℕ) (js : List Record) (s : State) (led : 
         ask : record { 0 = (channel s to.0).answered } ≡ a
         ask = ap (λ (k : ℕ). record { 0 = k }) e
 
-        same : result (state n tb v i) (journal v i) i to ≡ reckoning s.me to a m
+        same : settlement (state n tb v i) (journal v i) i to ≡ reckoning s.me to a m
         same = rw (here v is, is, ask, g, ← me) refl
 
     queried : (q : Option Inquiry) → AllByRecursion Sayable (query s q)
@@ -249,25 +242,12 @@ module _ (n : ℕ) (tb : Table) (i : ℕ) (js : List Record) (s : State) (led : 
         (λ k l v is. subst (λ z. Step n tb v (spoke v z)) (rw (here v is, ← me) refl) (reminds v i j k (rw (here v is) l))) (ranged 0 _ _ (omega arith)))
         (any_all _)
 
-    -- a train that has a slot is open
-    slotted : (tb : Table) (xs : List (Option Train)) → ((k : ℕ) (t : Train) → k < length xs → get_or xs k None ≡ Some t → is_open s t ≡ true) → AllByRecursion (λ t. is_open s t ≡ true) (rowed tb xs)
-    slotted tb [] h = tt
-    slotted tb (None ∷ xs) h = slotted tb xs (λ k t l e. h (suc k) t (omega arith) e)
-    slotted tb (Some t ∷ xs) h =
-        let rest = slotted tb xs (λ k t l e. h (suc k) t (omega arith) e) in
-        cond_both (is_some (tb t.0)) (t ∷ rowed tb xs) (rowed tb xs) (AllByRecursion (λ t. is_open s t ≡ true)) (λ _. (h 0 t (omega arith) refl, rest)) (λ _. rest)
-
-    has_slot : (k : ℕ) (t : Train) → k < length s.slots → get_or s.slots k None ≡ Some t → is_open s t ≡ true
-    has_slot k t l e =
-        lt-ltb (place_of s.slots (Some t)) (length s.slots)
-        (⊎_elim (λ g. absurd (place_first s.slots (Some t) k g e)) (λ g. omega (arith, g, l)) (cases_lt k (place_of s.slots (Some t))))
-
     told_of : AllByRecursion Sayable (tellings tb s)
     told_of =
         all_flat Sayable (λ _. Unit {0}) (tellings_to tb s) (others s.me (length s.channels))
         (λ j _. all_mapped Sayable (λ t. is_open s t ≡ true) (telling tb s s.me j) (open_trains tb s)
         (λ t o v is. subst (λ z. Step n tb v (spoke v z)) (rw (here v is, ← me) refl) (tells v i j t (rw (here v is) o)))
-        (all_ordered (λ t. is_open s t ≡ true) (λ (x y : Train). ltb x.0 y.0) [] (rowed tb s.slots) tt (slotted tb s.slots has_slot)))
+        (each_by (Listed tb s.slots) (λ t. is_open s t ≡ true) (λ t h. h.0) (open_trains tb s) (trains_each tb s)))
         (any_all _)
 
     ticks : (k : ℕ) → AllByRecursion Sayable (ticked tb s k)
@@ -359,7 +339,7 @@ module _ (n : ℕ) (tb : Table) (w : World) (reach : Reach n tb w) (i : ℕ) (l 
   declined_said from a e h f st =
       let (b, u) = fits_declined tb now from a (subst (λ e. fits tb now e ≡ true) (sym h) f) in
       reckons n tb i (journal w i ++ e ∷ []) (apply tb now e) (then_is (e ∷ []) st) (me_is (e ∷ []) st) from a 0 (omega (arith, u))
-      (subst (λ e. (channel (apply tb now e) from.0).answered ≡ a.0) h (ap (λ (c : Chan). c.answered) (get_or-set_same now.channels from.0 (declined (channel now from.0) a.0) fresh b)))
+      (subst (λ e. (channel (apply tb now e) from.0).answered ≡ a.0) h (omega (arith, u, ap (λ (c : Chan). c.answered) (get_or-set_same now.channels from.0 (declined (channel now from.0) a.0) fresh b))))
       (subst (λ e. given_for from a (journal w i ++ e ∷ []) ≡ 0) h (omega (arith, given_push from a (journal w i) (Declined from a), ungiven from a u)))
 
   -- and one for which pieces are given
@@ -414,7 +394,7 @@ module _ (n : ℕ) (tb : Table) (w : World) (reach : Reach n tb w) (i : ℕ) (l 
   asked : (m : Mind) (d : Demand) (e : Record) → Ok (Done e) ≡ decided tb now (input.Ask d) → Steps n tb w (called n tb w i m (Call (input.Ask d)) (turned now m (input.Ask d) (Ok (Done e))))
   asked m d e g =
       let a = Asked (record { 0 = now.asked + 1 }) in
-      let st = subst (λ z. Steps n tb w (wrote_world (z ∷ []))) (sym (asks_is tb now d e (sym g))) (write_steps (input.Ask d) (Ok (Done e)) g tt) in
+      let st = subst (λ o. Steps n tb w (wrote_world (entries o))) (asks_is tb now d (Done e) (sym g)).0 (write_steps (input.Ask d) (Ok (Done e)) g tt) in
       told_then (a ∷ []) st _ (queried n tb i (journal w i ++ a ∷ []) (apply tb now a) (then_is (a ∷ []) st) (me_is (a ∷ []) st) (after_ask now m (input.Ask d)).inquiry)
 
   calls : (m : Mind) (x : Input) (o : Answer) → o ≡ decided tb now x → Heeds w.said i x → Steps n tb w (called n tb w i m (Call x) (turned now m x o))
@@ -442,7 +422,7 @@ module _ (n : ℕ) (tb : Table) (w : World) (reach : Reach n tb w) (i : ℕ) (l 
   refuses : (m : Mind) (e : Event) (r : Refusal) → Steps n tb w (called n tb w i m e (Err r))
   refuses m (Call x) r = silent
   refuses m (Answered from a k) r = silent
-  refuses m (Tells from t y) r = silent
+  refuses m (Told from t y) r = silent
   refuses m Tick r = silent
 
   happens : (m : Mind) (e : Event) → HeedsAll w.said i e → Steps n tb w (called n tb w i m e (resolved tb now m e))
@@ -455,9 +435,9 @@ module _ (n : ℕ) (tb : Table) (w : World) (reach : Reach n tb w) (i : ℕ) (l 
       cond_by P R (under_way now m from a) (unless (leb k (wanted m.inquiry)) Malformed (Ok Noted)) (Ok (Came Nothing))
       (λ _. unless_by P R (leb k (wanted m.inquiry)) Malformed (Ok Noted) (λ _. speaks (query now (advanced m.inquiry k)) (queried n tb i (journal w i ++ []) now (then_is [] (rests [] refl)) now_me (advanced m.inquiry k))))
       silent))
-  happens m (Tells from t y) h =
-      let P = λ (r : Response). Steps n tb w (called n tb w i m (Tells from t y) r) in
-      let R = refuses m (Tells from t y) in
+  happens m (Told from t y) h =
+      let P = λ (r : Response). Steps n tb w (called n tb w i m (Told from t y) r) in
+      let R = refuses m (Told from t y) in
       unless_by P R (sensible (tb t.0) y) Malformed _ (λ _.
       unless_by P R (other now.me now.channels from.0) NoSuchStation _ (λ _.
       cond_by P R (is_open now t) (Ok Noted) (Ok (Came Nothing)) (λ _. silent) silent))
@@ -487,7 +467,7 @@ module _ (n : ℕ) (tb : Table) (w : World) (reach : Reach n tb w) (i : ℕ) (r 
   opening (Ok (Done e)) f =
       let d : decided_open tb (state n tb w i) r ≡ Ok (Done e) = sym (f refl) in
       let g = grows n tb (put tb r) w (put_extends tb r (opens_admitted tb (state n tb w i) r e d)) reach in
-      more none (writes w i e l (subst (Told w.said i) (opens_is tb (state n tb w i) r e d) tt) (subst (λ x. fits (put tb r) x e ≡ true) (g.1 i) (opens_one tb (state n tb w i) r e d)))
+      more none (writes w i e l (subst (Backed w.said i) (opens_is tb (state n tb w i) r e d) tt) (subst (λ x. fits (put tb r) x e ≡ true) (g.1 i) (opens_one tb (state n tb w i) r e d)))
   opening (Ok (Gave to m a p)) f = absurd (opens_gives tb (state n tb w i) r to m a p (sym (f refl)))
   opening o d = rests n tb w reach i l [] refl
 

@@ -20,8 +20,9 @@ use Rattle.network.proofs.Stock.{stock, due, all_taken}
 use Rattle.network.proofs.Sum.{sum_to, sum_cong, sum_add, sum_swap, sum_has, sum_one, sum_at, sum_peak, sum_le}
 use Rattle.network.proofs.Trains.{share, share_le, share_elsewhere, home}
 use Rattle.network.specs.Places.{count_in, under_way}
+use Rattle.asking.specs.Replies.{request}
 use Rattle.asking.specs.Ticks.{reminder, telling}
-use Rattle.network.specs.Worlds.{World, journal, state, channel, Told, wrote, spoke, account, request, result, Step, writes, reminds, accounts, asks, answers, tells, Steps, none, more, Reach, beginning}
+use Rattle.network.specs.Worlds.{World, journal, state, channel, Backed, wrote, spoke, account, settlement, Step, writes, reminds, accounts, asks, answers, tells, Steps, none, more, Reach, beginning}
 use Rattle.pieces.specs.Parts.{blank}
 use Rattle.pieces.specs.declared.names.Train.{Train}
 use Rattle.pieces.specs.declared.piece.Piece.{Piece}
@@ -194,7 +195,7 @@ module _ (n : ℕ) (tb : Table) (w : World) (ok : Intact n tb w) (t : Train) (s 
 
 module _ (n : ℕ) (tb : Table) where
   -- what a station hears was taken
-  heard_told : (w : World) (i : ℕ) (e : Record) → Intact n tb w → Told w.said i e → (k : ℕ) → hears k e ≤ length (taken_from i (journal w k))
+  heard_told : (w : World) (i : ℕ) (e : Record) → Intact n tb w → Backed w.said i e → (k : ℕ) → hears k e ≤ length (taken_from i (journal w k))
   heard_told w i (Heard from m) ok t k = cond_both (eqb k from.0) m.0 0 (λ v. v ≤ length (taken_from i (journal w k))) (λ d. rw (eqb-true k from.0 d) said) (λ _. omega arith)
     where
       said : m.0 ≤ length (taken_from i (journal w from.0))
@@ -202,7 +203,7 @@ module _ (n : ℕ) (tb : Table) where
   heard_told w i e ok t k = omega arith
 
   -- what a station takes is the next piece that was given to it
-  next : (w : World) (i : ℕ) (e : Record) → Intact n tb w → Told w.said i e → fits tb (state n tb w i) e ≡ true → (k : ℕ) → Begins (taken_from k (journal w i) ++ taken_of k e) (given_to i (journal w k))
+  next : (w : World) (i : ℕ) (e : Record) → Intact n tb w → Backed w.said i e → fits tb (state n tb w i) e ≡ true → (k : ℕ) → Begins (taken_from k (journal w i) ++ taken_of k e) (given_to i (journal w k))
   next w i (Taken from m p) ok t f k = go (cases_eq k from.0)
     where
       said : Placed (given_to i (journal w from.0)) m.0 p
@@ -269,7 +270,7 @@ module _ (n : ℕ) (tb : Table) where
           }
   ok_step (accounts w i j) ok = more_said w (account (state n tb w i) i j) ok (omega (arith, ((ok.fine i).line j).taken))
   ok_step (asks w i j d) ok = more_said w (request (state n tb w i) i j d) ok tt
-  ok_step (answers w i j l) ok = more_said w (result (state n tb w i) (journal w i) i j) ok tt
+  ok_step (answers w i j l) ok = more_said w (settlement (state n tb w i) (journal w i) i j) ok tt
   ok_step (tells w i j t o) ok = more_said w (telling tb (state n tb w i) i j t) ok tt
 
   ok_begin : Intact n tb (beginning n)

@@ -2,12 +2,14 @@
 use Rattle.std.specs.Prelude.{◌≡◌, ℕ, ◌<◌, ◌≤◌, Bool, true, false, ◌&&◌, List, [], ◌∷◌, ◌++◌, length, replicate, fold, count_by, ◌==◌, slice_index_or, slice_set}
 use mathlib.Core.List.{Memᴰ}
 use Rattle.giving.specs.Channels.{Chan, line}
+use Rattle.asking.specs.Replies.{request}
 use Rattle.asking.specs.Ticks.{reminder, telling}
 use Rattle.giving.specs.declared.ids.Ask.{Ask}
 use Rattle.giving.specs.declared.ids.Number.{Number}
 use Rattle.giving.specs.declared.ids.StationId.{StationId}
 use Rattle.giving.specs.declared.message.Body.TheVariants as body
 use Rattle.giving.specs.declared.message.Message.{Message}
+use Rattle.ledger.specs.Decisions.{reckoning}
 use Rattle.state.specs.Changes.{apply, fits}
 use Rattle.state.specs.States.{State, begun, is_open}
 use Rattle.state.specs.declared.record.Record.{Record}
@@ -36,16 +38,16 @@ channel s j = line s.channels j
 -- ---- what may happen
 
 -- what a station takes and hears was said to it, and it gives no more for an ask once it has said how much it gave
-abbrev pub Told : List Message → ℕ → Record → Type 0
-Told ms i (Opened t) = Unit {0}
-Told ms i (Closed t) = Unit {0}
-Told ms i (Sold n p) = Unit {0}
-Told ms i (Undone n) = Unit {0}
-Told ms i (Given to n a p) = (m : ℕ) → Memᴰ (record { from = record { 0 = i }; to = to; body = body.Answered a m }) ms → ⊥
-Told ms i (Taken from n p) = Memᴰ (record { from = from; to = record { 0 = i }; body = body.Given n p }) ms
-Told ms i (Heard from n) = Memᴰ (record { from = from; to = record { 0 = i }; body = body.Taken n }) ms
-Told ms i (Asked a) = Unit {0}
-Told ms i (Declined to a) = Unit {0}
+abbrev pub Backed : List Message → ℕ → Record → Type 0
+Backed ms i (Opened t) = Unit {0}
+Backed ms i (Closed t) = Unit {0}
+Backed ms i (Sold n p) = Unit {0}
+Backed ms i (Undone n) = Unit {0}
+Backed ms i (Given to n a p) = (m : ℕ) → Memᴰ (record { from = record { 0 = i }; to = to; body = body.Answered a m }) ms → ⊥
+Backed ms i (Taken from n p) = Memᴰ (record { from = from; to = record { 0 = i }; body = body.Given n p }) ms
+Backed ms i (Heard from n) = Memᴰ (record { from = from; to = record { 0 = i }; body = body.Taken n }) ms
+Backed ms i (Asked a) = Unit {0}
+Backed ms i (Declined to a) = Unit {0}
 
 abbrev pub wrote : World → ℕ → Record → World
 wrote w i e = record { journals = slice_set w.journals i (journal w i ++ e ∷ []); said = w.said }
@@ -57,10 +59,6 @@ spoke w m = record { journals = w.journals; said = w.said ++ m ∷ [] }
 abbrev pub account : State → (i j : ℕ) → Message
 account s i j = record { from = record { 0 = i }; to = record { 0 = j }; body = body.Taken (record { 0 = (channel s j).taken }) }
 
--- i asks j, under the number of the last ask that it made
-abbrev pub request : State → (i : ℕ) → StationId → Demand → Message
-request s i j d = record { from = record { 0 = i }; to = j; body = body.Asked (record { 0 = s.asked }) d }
-
 -- a piece is given to station j for ask a
 abbrev pub is_gift : StationId → Ask → Record → Bool
 is_gift j a (Given to n b p) = to.0 == j.0 && b.0 == a.0
@@ -71,17 +69,17 @@ abbrev pub given_for : StationId → Ask → List Record → ℕ
 given_for j a js = count_by (is_gift j a) js
 
 -- how many pieces i gave for the last ask of j that it answered
-abbrev pub result : State → List Record → (i : ℕ) → StationId → Message
-result s js i j = record { from = record { 0 = i }; to = j; body = body.Answered (record { 0 = (channel s j.0).answered }) (given_for j (record { 0 = (channel s j.0).answered }) js) }
+abbrev pub settlement : State → List Record → (i : ℕ) → StationId → Message
+settlement s js i j = reckoning i j (record { 0 = (channel s j.0).answered }) (given_for j (record { 0 = (channel s j.0).answered }) js)
 
 -- A station writes a record that fits its state, or says something that is true of it. What it says comes behind what it
 -- writes, so a station that falls between the two has written and said nothing.
 pub data Step (n : ℕ) (tb : Table) : World → World → Type 0 where
-  writes : (w : World) (i : ℕ) (e : Record) → i < n → Told w.said i e → fits tb (state n tb w i) e ≡ true → Step n tb w (wrote w i e)
+  writes : (w : World) (i : ℕ) (e : Record) → i < n → Backed w.said i e → fits tb (state n tb w i) e ≡ true → Step n tb w (wrote w i e)
   reminds : (w : World) (i j k : ℕ) → k < length (channel (state n tb w i) j).waiting → Step n tb w (spoke w (reminder (state n tb w i) i j k))
   accounts : (w : World) (i j : ℕ) → Step n tb w (spoke w (account (state n tb w i) i j))
   asks : (w : World) (i : ℕ) (j : StationId) (d : Demand) → Step n tb w (spoke w (request (state n tb w i) i j d))
-  answers : (w : World) (i : ℕ) (j : StationId) → 1 ≤ (channel (state n tb w i) j.0).answered → Step n tb w (spoke w (result (state n tb w i) (journal w i) i j))
+  answers : (w : World) (i : ℕ) (j : StationId) → 1 ≤ (channel (state n tb w i) j.0).answered → Step n tb w (spoke w (settlement (state n tb w i) (journal w i) i j))
   tells : (w : World) (i : ℕ) (j : StationId) (t : Train) → is_open (state n tb w i) t ≡ true → Step n tb w (spoke w (telling tb (state n tb w i) i j t))
 
 -- any number of steps
@@ -92,7 +90,7 @@ pub data Steps (n : ℕ) (tb : Table) (w : World) : World → Type 0 where
 -- what carries a piece from one station to another: it is said, and it is taken
 pub data Carry (n : ℕ) (tb : Table) : World → World → Type 0 where
   said : (w : World) (i j k : ℕ) → k < length (channel (state n tb w i) j).waiting → Carry n tb w (spoke w (reminder (state n tb w i) i j k))
-  taken : (w : World) (j : ℕ) (from : StationId) (m : Number) (p : Piece) → j < n → Told w.said j (Taken from m p) → fits tb (state n tb w j) (Taken from m p) ≡ true → Carry n tb w (wrote w j (Taken from m p))
+  taken : (w : World) (j : ℕ) (from : StationId) (m : Number) (p : Piece) → j < n → Backed w.said j (Taken from m p) → fits tb (state n tb w j) (Taken from m p) ≡ true → Carry n tb w (wrote w j (Taken from m p))
 
 pub data Carries (n : ℕ) (tb : Table) (w : World) : World → Type 0 where
   here : Carries n tb w w

@@ -154,7 +154,7 @@ impl Channel {
     pub fn decline(&mut self, ask: Ask)
         ensures { chan self.new ≡ declined (chan self.old) ask.0 }
     {
-        self.answered = ask;
+        self.answered = self.answered.max(ask);
     }
 
     // Lets go of the pieces up to a number that the other station acknowledges.

@@ -5,7 +5,7 @@ ghost use Rattle.choosing.specs.Parties.{party_of};
 ghost use Rattle.pieces.specs.Counts.{tally_of};
 ghost use Rattle.pieces.specs.Memory.{train_at, word_at};
 ghost use Rattle.pieces.specs.Stretches.{holds};
-ghost use Rattle.state.specs.States.{begun, same, place_of, place, is_open, was_closed, known, openable, holds_piece, has_sold, kept, sold, tickets_left, asks_left, ticket_of};
+ghost use Rattle.state.specs.States.{begun, same, place_of, place, is_open, was_closed, known, openable, holds_piece, kept, sold, tickets_left, asks_left, ticket_of};
 ghost use Rattle.state.specs.Views.{view};
 
 use super::Station;
@@ -131,14 +131,6 @@ impl Station {
     {
         let slot = self.slot(Some(train)).unwrap();
         choose_all_at(&self.memory, slot, count, train, trip, people)
-    }
-
-    // Whether a ticket of an open train was ever sold here.
-    pub fn has_sold(&self, train: Train) -> bool
-        ensures { result ≡ has_sold (view self.now) train }
-    {
-        self.slot(Some(train))
-            .is_some_and(|slot| self.ever_sold[slot.index()])
     }
 
     // The seat of a train that is kept when another station asks.
