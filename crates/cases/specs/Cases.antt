@@ -32,7 +32,7 @@ use Rattle.state.specs.declared.record.Record.TheVariants.{Opened, Closed, Sold,
 use Rattle.std.specs.List.{AllByRecursion}
 use Rattle.timetable.specs.declared.row.Row.{Row}
 use Rattle.cases.specs.Plays.{Case, Play, Right, calls, says}
-use Rattle.cases.specs.Plays.Play.{happens, held, tickets, awaits}
+use Rattle.cases.specs.Plays.Play.{happens, held, tickets, awaits, falls}
 
 -- ---- words for the table
 
@@ -189,6 +189,34 @@ examples =
     ∷ held 0 ((0, 6) ∷ [])
     ∷ held 1 ((0, 6) ∷ [])
     ∷ tickets []
+    ∷ []
+    )
+    -- the giver falls after its file had it and before it said so: it comes up, and says it, and does not hold it
+    ∷ seller single [] (
+    falls (Call (Give (station 2) (people 1 0 2))) (Given (station 2) (number 1) unasked (piece 0 (trip 0 2)) ∷ [])
+    ∷ held 0 ((2, 6) ∷ [])
+    ∷ happens Tick (Ok Ticked) [] (message 1 2 (body.Given (number 1) (piece 0 (trip 0 2))) ∷ [])
+    ∷ held 0 ((2, 6) ∷ [])
+    ∷ []
+    )
+    -- its file had one of two: the other is held, and is given under the next number; an ask under way is forgotten, and its number is not used again
+    ∷ seller double [] (
+    falls (Call (Give (station 2) (people 2 0 2))) (Given (station 2) (number 1) unasked (piece 0 (trip 0 2)) ∷ [])
+    ∷ held 0 ((2, 6) ∷ [])
+    ∷ held 1 ((0, 6) ∷ [])
+    ∷ falls (Call (Give (station 2) (people 1 0 2))) []
+    ∷ held 1 ((0, 6) ∷ [])
+    ∷ says (Give (station 2) (people 1 0 2)) (Ok (Gave (station 2) (number 2) unasked (party (1 ∷ []) (trip 0 2))))
+    (Given (station 2) (number 2) unasked (piece 1 (trip 0 2)) ∷ []) (message 1 2 (body.Given (number 2) (piece 1 (trip 0 2))) ∷ [])
+    ∷ []
+    )
+    ∷ asker double (
+    asks 1 2 (people 2 0 3)
+    ∷ falls (Call (input.Ask (people 2 0 3))) (Asked (ask 3) ∷ [])
+    ∷ awaits 0 []
+    ∷ passes (answer 1 2 2)
+    ∷ passes (answer 1 3 2)
+    ∷ asks 1 4 (people 2 0 3)
     ∷ []
     )
     -- a station that ever sold one of the train keeps the lowest seat when it is asked, and gives the others, those first that leave least;

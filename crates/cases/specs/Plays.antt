@@ -1,6 +1,7 @@
 -- What is done with a station in an example, what is seen, and that it goes so.
-use Rattle.std.specs.Prelude.{◌≡◌, ℕ, Bool, true, false, ◌||◌, List, [], ◌∷◌, map, Some, None, Option, Ok, Err, OnErr, fold}
+use Rattle.std.specs.Prelude.{◌≡◌, ℕ, Bool, true, false, ◌||◌, List, [], ◌∷◌, map, length, take, Some, None, Option, Ok, Err, OnErr, fold}
 use Rattle.asking.specs.Events.{Response, resolved}
+use Rattle.asking.specs.Minds as minds
 use Rattle.asking.specs.Minds.{Inquiry, Mind, wanted}
 use Rattle.asking.specs.Replies.{lasting, minded, spoken, written}
 use Rattle.asking.specs.declared.event.Event.{Event}
@@ -33,6 +34,8 @@ pub data Play : Type 0 where
   tickets : List (Option Party) → Play
   -- for how many people it still asks others, and who is still to answer, the first of these being asked now
   awaits : (people : ℕ) → (order : List StationId) → Play
+  -- its power is cut in the midst of what comes to it, when its file has some first ones of the records that it was to write, and it comes up again
+  falls : Event → (left : List Record) → Play
 
 -- station `me` of so many, which knows the one train of `row`; its journal and its mind; and what is done and seen from there on, in order
 pub record Case : Type 0 where
@@ -88,6 +91,10 @@ Answers tb s m e r es ms =
     (resolved tb s m e ≡ r) × (written s r ≡ es) × (spoken tb (lasting tb s r) (minded s m e r) e r ≡ ms)
     × OnErr r ((lasting tb s r ≡ s) × (minded s m e r ≡ m))
 
+-- these are some first ones of the records that a station was to write
+abbrev pub Left : Table → State → Mind → Event → List Record → Type 0
+Left tb s m e es = take (length es) (written s (resolved tb s m e)) ≡ es
+
 -- all of it goes so, from a state and a mind on, for train z
 abbrev pub Goes : Table → Train → State → Mind → List Play → Type 0
 Goes tb z s m [] = Unit {0}
@@ -95,6 +102,7 @@ Goes tb z s m (happens e r es ms ∷ ps) = Answers tb s m e r es ms × Goes tb z
 Goes tb z s m (held k rs ∷ ps) = (map (holds (word_at s.words (place s z) k)) every ≡ map (on rs) every) × Goes tb z s m ps
 Goes tb z s m (tickets xs ∷ ps) = (s.dropped ≡ 0) × (s.tickets ≡ xs) × Goes tb z s m ps
 Goes tb z s m (awaits n ks ∷ ps) = (wanted m.inquiry ≡ n) × (unheard m.inquiry ≡ ks) × Goes tb z s m ps
+Goes tb z s m (falls e es ∷ ps) = Left tb s m e es × Goes tb z (fold (apply tb) s es) minds.empty ps
 
 -- a station that begins, and its timetable
 abbrev pub start : Case → State

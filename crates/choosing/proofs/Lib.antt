@@ -1,3 +1,4 @@
+pub mod Covered
 pub mod Groups
 pub mod Lowest
 pub mod Parties

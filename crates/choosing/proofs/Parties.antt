@@ -7,10 +7,16 @@ use Rattle.choosing.specs.declared.party.Party.{Party}
 use Rattle.pieces.specs.declared.names.Seat.{Seat}
 use Rattle.pieces.specs.declared.names.Train.{Train}
 use Rattle.pieces.specs.declared.trip.Trip.{Trip}
-use Rattle.std.proofs.lemmas.List.{append_assoc, length_push, set-append_right, take_at}
+use Rattle.std.proofs.lemmas.List.{append_assoc, length-append, length-replicate, length-take, length_push, set-append_right, take_at}
 
 pub party_seats : (z : Train) (t : Trip) (ss : List Seat) → length ss ≤ 8 → seats_of (party_of z t ss) ≡ ss
 party_seats z t ss h = take_at ss (replicate (8 - length ss) unused) (min (length ss) 8) (omega arith)
+
+pub room_for_one : (p : Party) (z : Train) (t : Trip) (ss : List Seat) → p ≡ party_of z t ss → length (seats_of p) < 8 → p.count < 8
+room_for_one p z t ss e h =
+    let count = ap (λ (x : Party). x.count) e in
+    let all = ap (λ (x : Party). length x.seats) e in
+    omega (arith, h, count, all, length-take p.count p.seats, length-append ss (replicate (8 - length ss) unused), length-replicate (8 - length ss) unused)
 
 -- one more
 pub one_more : (p q : Party) (z : Train) (t : Trip) (ss : List Seat) (s : Seat) → p.count < 8 → p ≡ party_of z t ss

@@ -24,7 +24,7 @@ kept_word (s ∷ ss) f a b k h =
     let p = or_parts (eqb s.0 k) (among k ss) h in
     kept_word ss (drawn f a b s.0) a b k p.1 ∙ drawn_other f a b s.0 k (λ e. eqb-false s.0 k p.0 (sym e))
 
-covers_first : (ss : List Seat) (f : ℕ → ℕ) (a b k : ℕ) → a < b → Covers (drawn_all f a b ss k) a b → Covers (f k) a b
+pub covers_first : (ss : List Seat) (f : ℕ → ℕ) (a b k : ℕ) → a < b → Covers (drawn_all f a b ss k) a b → Covers (f k) a b
 covers_first [] f a b k l c = c
 covers_first (s ∷ ss) f a b k l c =
     cond_both (eqb k s.0) (less (f k) a b) (f k) (λ (w : ℕ). Covers w a b → Covers (f k) a b)
@@ -40,7 +40,7 @@ not_taken (s ∷ ss) f a b k l c =
 
 -- ---- the search
 
-any_among : (k : ℕ) (ss : List Seat) → list_any (λ (s : Seat). eqb s.0 k) ss ≡ among k ss
+pub any_among : (k : ℕ) (ss : List Seat) → list_any (λ (s : Seat). eqb s.0 k) ss ≡ among k ss
 any_among k ss = same_from_clauses (list_any (λ s. eqb s.0 k)) (among k) (λ s r. eqb s.0 k || r) refl (λ _ _. refl) (λ _ _. refl) ss
 
 -- less than what the best seat leaves, if there is one

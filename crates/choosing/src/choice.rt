@@ -38,7 +38,7 @@ pub fn choose(words: &[u64], trip: Trip, taken: &[Seat]) -> Option<Seat>
 }
 
 // Whether a seat is taken already: by a plain loop, since with `contains` the search above is compiled anew for each size of party, and slower.
-fn is_taken(taken: &[Seat], seat: Seat) -> bool
+pub(crate) fn is_taken(taken: &[Seat], seat: Seat) -> bool
     ensures value { result ≡ list_any (λ (s : Chair). s.0 == seat.0) taken.now }
 {
     for other in taken {

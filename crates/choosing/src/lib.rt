@@ -4,6 +4,7 @@
 ghost use Rattle.choosing.specs.Laws.{Choices};
 
 pub mod choice;
+pub mod covers;
 pub mod party;
 #[cfg(test)]
 mod tests;

@@ -59,7 +59,7 @@ module _ (tb : Table) (s : State) (n : Ticket) (p : Party) (f : fits tb s (Sold 
   back =
       let (_, _, h, _) = grounds in
       ap (λ (y : Option Party). with_tickets (returned y next) (set (s.tickets ++ Some p ∷ []) (n.0 - 1 - s.dropped) None)) ticket
-      ∙ same_state _ _ refl refl (put_back_all s.words (place s p.train) (seats_of p) p.trip.from.0 p.trip.to.0 p.trip.ordered h) refl refl refl
+      ∙ same_state _ _ refl refl (put_back_all s.words (place s p.train) (seats_of p) p.trip.from.0 p.trip.to.0 p.trip.ordered h) refl refl refl refl
       (ap (λ (k : ℕ). set (s.tickets ++ Some p ∷ []) k None) at ∙ set_last s.tickets (Some p) None) refl refl
 
 pub sells_back : SellsBack

@@ -1,3 +1,4 @@
 pub mod Decisions
 pub mod Calls
 pub mod Laws
+pub mod Lost

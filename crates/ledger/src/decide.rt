@@ -6,13 +6,12 @@ ghost use Rattle.giving.specs.declared.refusal.Refusal.TheVariants.{Full};
 ghost use Rattle.ledger.specs.Decisions.{decided, decided_open, granting, judged};
 ghost use Rattle.ledger.specs.declared.input.Input.TheVariants.{Close, Sell, Undo, Give, Take, Hear, Grant};
 ghost use Rattle.ledger.specs.declared.input.Input.TheVariants as asked;
-ghost use Rattle.state.specs.Changes.{listed_all};
 ghost use Rattle.state.specs.States.{is_open};
 ghost use Rattle.state.specs.Views.{view};
 ghost use Rattle.timetable.specs.Tables.{table as rows_of};
 
 use crate::input::{Input, Outcome};
-use choosing::party::{MOST, Party};
+use choosing::party::MOST;
 use giving::channels::Channels;
 use giving::ids::{Ask, Number, StationId, Ticket};
 use giving::refusal::Refusal;
@@ -70,21 +69,11 @@ fn decide_sell(station: &Station, table: &Timetable, demand: Demand) -> Result<O
     Ok(Outcome::Done(Record::Sold(ticket, party)))
 }
 
-// Whether the train of a party is in the timetable, and has its seats and stops.
-fn is_listed(table: &Timetable, party: Party) -> bool
-    ensures { result ≡ listed_all (rows_of table.now party.train.0) party }
-{
-    table
-        .row(party.train)
-        .is_some_and(|row| party.is_within(row.seats, row.stops))
-}
-
 // A ticket is undone while it stands and its train is open.
 fn decide_undo(station: &Station, table: &Timetable, ticket: Ticket) -> Result<Outcome, Refusal>
     ensures { result ≡ decided (rows_of table.now) (view station.now) (Undo ticket) }
 {
-    let party = station.ticket(ticket).ok_or(Refusal::NoSuchTicket)?;
-    if !is_listed(table, party) || !station.is_open(party.train) {
+    if !station.is_returnable(table, ticket) {
         return Err(Refusal::NoSuchTicket);
     }
     Ok(Outcome::Done(Record::Undone(ticket)))

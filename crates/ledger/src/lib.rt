@@ -4,4 +4,5 @@
 pub mod calls;
 pub mod decide;
 pub mod input;
+pub mod lost;
 pub mod reply;

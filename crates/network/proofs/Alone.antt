@@ -32,7 +32,8 @@ use Rattle.network.proofs.Sum.{sum_has}
 use Rattle.network.specs.Answers.{HasStop, Wanted, words_of, covering, Seated, SeatedOf, Splits, SaleAnswer, GiftAnswer}
 use Rattle.network.specs.Places.{count_in}
 use Rattle.network.specs.Promises.{SellsAlone, Sells, Gives}
-use Rattle.network.specs.Worlds.{World, state, Reach}
+use Rattle.network.specs.Falls.{Reach}
+use Rattle.network.specs.Worlds.{World, state}
 use Rattle.pieces.proofs.Bitwise.{covered_decides}
 use Rattle.pieces.proofs.Same.{trip_is, trip_none}
 use Rattle.pieces.specs.Stretches.{Covers, covered}

@@ -8,13 +8,15 @@ use Rattle.giving.specs.declared.message.Message.{Message}
 use Rattle.network.proofs.Count.{given_to, taken_from}
 use Rattle.network.proofs.Fine.{Lists}
 use Rattle.network.proofs.Kept.{Holds, held_on, taken_keeps}
-use Rattle.network.proofs.Linked.{Intact, ok_step, ok_reach, given_rest, wrote_state}
+use Rattle.network.proofs.Linked.{Intact, ok_reach, given_rest, wrote_state}
+use Rattle.network.proofs.Sites.{sited, on_file, silent_covered, told_covered}
 use Rattle.network.proofs.Moves.{received_beside}
 use Rattle.network.proofs.Sum.{sum_to, sum_cong, sum_at}
 use Rattle.network.specs.Places.{under_way}
 use Rattle.network.specs.Promises.{Settled, Arrives}
 use Rattle.asking.specs.Ticks.{reminder}
-use Rattle.network.specs.Worlds.{World, journal, state, channel, Backed, wrote, spoke, Step, writes, reminds, more, Reach, Carry, said, taken, Carries, here, onward}
+use Rattle.network.specs.Falls.{Site, site, sync, steps, syncs, more, Reached, Carries, here, onward, safely}
+use Rattle.network.specs.Worlds.{World, journal, state, channel, Backed, wrote, spoke, Step, writes, reminds, Carry, said, taken}
 use Rattle.pieces.specs.Parts.{blank}
 use Rattle.pieces.specs.declared.names.Train.{Train}
 use Rattle.pieces.specs.declared.piece.Piece.{Piece}
@@ -54,6 +56,10 @@ find P Q c (suc n) = go (c n) (find P Q c n)
     go (inr q) (inl (k, l, p)) = inl (k, omega arith, p)
     go (inr q) (inr h) = inr (λ k l. below_more Q n h q k (omega (arith, l)))
 
+-- what is held in a state, or of a closed train, is so in one that is the same
+kept_same : (x y : State) (q : Piece) → x ≡ y → (was_closed y q.train ≡ true) ⊎ (holds_piece y q ≡ true) → (was_closed x q.train ≡ true) ⊎ (holds_piece x q ≡ true)
+kept_same x y q e h = rw e h
+
 -- ---- on from one world to another
 
 module _ (n : ℕ) (tb : Table) where
@@ -82,7 +88,13 @@ module _ (n : ℕ) (tb : Table) where
 
   -- ---- one piece is said and taken
 
-  module _ (w : World) (ok : Intact n tb w) (i j : ℕ) (li : i < n) (lj : j < n) (q : Piece) (qs : List Piece) (way : ways w i j ≡ q ∷ qs) (room : (known (state n tb w j) q.train || openable (state n tb w j)) ≡ true) where
+  module _ (s : Site) (reached : Reached n tb s) (i j : ℕ) (li : i < n) (lj : j < n) (q : Piece) (qs : List Piece) (way : ways s.world i j ≡ q ∷ qs) (room : (known (state n tb s.world j) q.train || openable (state n tb s.world j)) ≡ true) where
+    abbrev w : World
+    w = s.world
+
+    ok : Intact n tb w
+    ok = ok_reach n tb (s.synced, reached)
+
     abbrev x : State
     x = state n tb w i
 
@@ -134,11 +146,11 @@ module _ (n : ℕ) (tb : Table) where
     abbrev after : World
     after = wrote spoken j entry
 
-    carried : Carries n tb w after
-    carried = onward (onward here (said w i j k waits.0)) (taken spoken j (record { 0 = i }) (record { 0 = number }) q lj told may)
-
-    after_ok : Intact n tb after
-    after_ok = ok_step n tb (writes spoken j entry lj told may) (ok_step n tb (reminds w i j k waits.0) ok)
+    -- it is said when all that i wrote is synced
+    carried : Carries n tb s (site after (sync s i).synced)
+    carried =
+        onward (onward (safely here i) (said w i j k waits.0) (told_covered (sync s i) message (on_file n s i (sited reached))))
+        (taken spoken j (record { 0 = i }) (record { 0 = number }) q lj told may) (silent_covered (site spoken (sync s i).synced) after refl)
 
     there : j < length w.journals
     there = omega (arith, ok.count)
@@ -191,7 +203,7 @@ module _ (n : ℕ) (tb : Table) where
     closed_on b t = all (λ b z. was_closed (state n tb w b) t ≡ true → was_closed z t ≡ true) (λ h. ap (among t) (received_beside tb y q).closed ∙ h) (λ _ h. h) b
 
     arrived : (was_closed (state n tb after j) q.train ≡ true) ⊎ (holds_piece (state n tb after j) q ≡ true)
-    arrived = ⊎_elim (λ c. inl (ap (λ z. was_closed z q.train) at_j ∙ c)) (λ c. inr (ap (λ z. holds_piece z q) at_j ∙ c)) kept.1
+    arrived = kept_same (state n tb after j) (apply tb y entry) q at_j kept.1
 
     come : (a b : ℕ) (p : Piece) → Memᴰ p (ways w a b) → Memᴰ p (ways after a b) ⊎ ((was_closed (state n tb after b) p.train ≡ true) ⊎ (holds_piece (state n tb after b) p ≡ true))
     come a b p m = ⊎_elim (λ (f, g). rw (f, g) (mem (rw way at (rw (f, g) at m)))) (λ d. inl (rw (way_other a b d) m)) (cases_two a i b j)
@@ -210,14 +222,24 @@ module _ (n : ℕ) (tb : Table) where
           ap length way,
         )
 
-    delivered : (v : World) × Carries n tb w v × Intact n tb v × Onward w v × (size v < size w)
-    delivered = (after, carried, after_ok, record { held = holds_on; closed = closed_on; come = come }, less)
+    delivered : (t : Site) × Carries n tb s t × Onward w t.world × (size t.world < size w)
+    delivered = (site after (sync s i).synced, carried, record { held = holds_on; closed = closed_on; come = come }, less)
 
   -- ---- all pieces
 
-  carries_then : {w v u : World} → Carries n tb w v → Carries n tb v u → Carries n tb w u
+  carries_then : {s t u : Site} → Carries n tb s t → Carries n tb t u → Carries n tb s u
   carries_then c here = c
-  carries_then c (onward d s) = onward (carries_then c d) s
+  carries_then c (onward d s h) = onward (carries_then c d) s h
+  carries_then c (safely d i) = safely (carries_then c d) i
+
+  carry_step : {w v : World} → Carry n tb w v → Step n tb w v
+  carry_step (said w i j k l) = reminds w i j k l
+  carry_step (taken w j from m p l t f) = writes w j (Taken from m p) l t f
+
+  carries_reach : {s t : Site} → Reached n tb s → Carries n tb s t → Reached n tb t
+  carries_reach r here = r
+  carries_reach r (onward {w} {v} {ks} c s h) = more (carries_reach r c) (steps w v ks (carry_step s) h)
+  carries_reach r (safely {t} c i) = more (carries_reach r c) (syncs t i)
 
   -- a next piece that can be taken
   abbrev ready : List Piece → State → Bool
@@ -228,40 +250,35 @@ module _ (n : ℕ) (tb : Table) where
   settled [] y e = tt
   settled (q ∷ qs) y e = or_parts (known y q.train) (openable y) e
 
-  deliver : (w : World) → Intact n tb w → (i j : ℕ) → i < n → j < n → (l : List Piece) → ways w i j ≡ l → ready l (state n tb w j) ≡ true → (v : World) × Carries n tb w v × Intact n tb v × Onward w v × (size v < size w)
-  deliver w ok i j li lj [] e r = absurd (false≢true r)
-  deliver w ok i j li lj (q ∷ qs) e r = delivered w ok i j li lj q qs e r
+  deliver : (s : Site) → Reached n tb s → (i j : ℕ) → i < n → j < n → (l : List Piece) → ways s.world i j ≡ l → ready l (state n tb s.world j) ≡ true → (t : Site) × Carries n tb s t × Onward s.world t.world × (size t.world < size s.world)
+  deliver s r i j li lj [] e h = absurd (false≢true h)
+  deliver s r i j li lj (q ∷ qs) e h = delivered s r i j li lj q qs e h
 
   -- as long as a next piece can be taken, it is
-  abbrev Arrived : World → Type 0
-  Arrived w = (v : World) × Carries n tb w v × Onward w v × ((i j : ℕ) → i < n → j < n → Settled (ways v i j) (state n tb v j))
+  abbrev Arrived : Site → Type 0
+  Arrived s = (t : Site) × Carries n tb s t × Onward s.world t.world × ((i j : ℕ) → i < n → j < n → Settled (ways t.world i j) (state n tb t.world j))
 
-  step : (w : World) → Intact n tb w → ((v : World) → Intact n tb v → size v < size w → Arrived v) → Arrived w
-  step w ok next = go (find (λ i. (j : ℕ) × (j < n) × (test i j ≡ true)) (λ i. (j : ℕ) → j < n → test i j ≡ false) (λ i. find (λ j. test i j ≡ true) (λ j. test i j ≡ false) (λ j. cases_Bool (test i j)) n) n)
+  step : (s : Site) → Reached n tb s → ((t : Site) → Reached n tb t → size t.world < size s.world → Arrived t) → Arrived s
+  step s r next = go (find (λ i. (j : ℕ) × (j < n) × (test i j ≡ true)) (λ i. (j : ℕ) → j < n → test i j ≡ false) (λ i. find (λ j. test i j ≡ true) (λ j. test i j ≡ false) (λ j. cases_Bool (test i j)) n) n)
     where
+      w : World
+      w = s.world
+
       test : ℕ → ℕ → Bool
       test i j = ready (ways w i j) (state n tb w j)
 
-      go : ((i : ℕ) × (i < n) × ((j : ℕ) × (j < n) × (test i j ≡ true))) ⊎ ((i : ℕ) → i < n → (j : ℕ) → j < n → test i j ≡ false) → Arrived w
+      go : ((i : ℕ) × (i < n) × ((j : ℕ) × (j < n) × (test i j ≡ true))) ⊎ ((i : ℕ) → i < n → (j : ℕ) → j < n → test i j ≡ false) → Arrived s
       go (inl (i, li, (j, lj, e))) =
-          let (v, c, o, f, l) = deliver w ok i j li lj (ways w i j) refl e in
-          let (u, d, g, s) = next v o l in
-          (u, carries_then c d, onward_then w v u f g, s)
-      go (inr h) = (w, here, onward_none w, λ i j li lj. settled (ways w i j) (state n tb w j) (h i li j lj))
+          let (t, c, f, l) = deliver s r i j li lj (ways w i j) refl e in
+          let (u, d, g, h) = next t (carries_reach r c) l in
+          (u, carries_then c d, onward_then w t.world u.world f g, h)
+      go (inr h) = (s, here, onward_none w, λ i j li lj. settled (ways w i j) (state n tb w j) (h i li j lj))
 
-  arrive : (m : ℕ) (w : World) → Intact n tb w → size w ≤ m → Arrived w
-  arrive zero w ok h = step w ok (λ v o l. absurd (omega (arith, l, h)))
-  arrive (suc m) w ok h = step w ok (λ v o l. arrive m v o (omega (arith, l, h)))
-
-carry_step : {n : ℕ} {tb : Table} {w v : World} → Carry n tb w v → Step n tb w v
-carry_step (said w i j k l) = reminds w i j k l
-carry_step (taken w j from m p l t f) = writes w j (Taken from m p) l t f
-
-carries_reach : {n : ℕ} {tb : Table} {w v : World} → Reach n tb w → Carries n tb w v → Reach n tb v
-carries_reach r here = r
-carries_reach r (onward c s) = more (carries_reach r c) (carry_step s)
+  arrive : (m : ℕ) (s : Site) → Reached n tb s → size s.world ≤ m → Arrived s
+  arrive zero s r h = step s r (λ t q l. absurd (omega (arith, l, h)))
+  arrive (suc m) s r h = step s r (λ t q l. arrive m t q (omega (arith, l, h)))
 
 pub arrives : Arrives
-arrives n tb w reach =
-    let (v, c, f, s) = arrive n tb (size n tb w) w (ok_reach n tb reach) (omega arith) in
-    (v, c, carries_reach reach c, λ i j li lj. (s i j li lj, f.come i j))
+arrives n tb s r =
+    let (t, c, f, h) = arrive n tb (size n tb s.world) s r (omega arith) in
+    (t, c, carries_reach n tb r c, λ i j li lj. (h i j li lj, f.come i j))

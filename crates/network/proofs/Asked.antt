@@ -11,15 +11,17 @@ use Rattle.giving.specs.declared.message.Message.{Message}
 use Rattle.giving.specs.declared.refusal.Refusal.TheVariants.{NoSuchStation}
 use Rattle.asking.specs.Replies.{request}
 use Rattle.asking.specs.Ticks.{reminder, telling}
-use Rattle.network.proofs.Linked.{Intact, ok_reach, every, wrote_ind, wrote_state}
+use Rattle.network.proofs.Linked.{Intact, ok_unfallen, every, wrote_ind, wrote_state}
 use Rattle.network.proofs.Lists.{set_ind, all_mem}
 use Rattle.network.proofs.Local.{fits_given, fits_declined, fits_heard, fits_taken}
 use Rattle.network.proofs.Moves.{opened_beside, returned_beside, received_beside}
+use Rattle.network.proofs.Unfallen.{Unfallen, untouched, stepped, unfallen}
+use Rattle.network.specs.Falls.{Reach}
 use Rattle.ledger.proofs.Decided.{heeded_by, unless_by}
 use Rattle.ledger.specs.Decisions.{Answer, after, answering, messages, records}
 use Rattle.ledger.specs.declared.input.Input.TheVariants.{Grant}
 use Rattle.network.specs.Promises.{AnswersOnce, AnswersTrue, Settles}
-use Rattle.network.specs.Worlds.{World, journal, state, channel, Backed, wrote, spoke, account, settlement, is_gift, given_for, Step, writes, reminds, accounts, asks, answers, tells, none, more, Reach, beginning}
+use Rattle.network.specs.Worlds.{World, journal, state, channel, Backed, wrote, spoke, account, settlement, is_gift, given_for, Step, writes, reminds, accounts, asks, answers, tells, beginning}
 use Rattle.state.specs.Changes.{apply, fits}
 use Rattle.pieces.specs.Parts.{trip_from}
 use Rattle.pieces.specs.declared.demand.Demand.{Demand}
@@ -139,9 +141,12 @@ module _ (n : ℕ) (tb : Table) where
   summed_step (answers w i j l) ok h = more_summed w (settlement (state n tb w i) (journal w i) i j) h (l, omega arith, refl)
   summed_step (tells w i j t o) ok h = more_summed w (telling tb (state n tb w i) i j t) h tt
 
+  summed_unfallen : {w : World} → Unfallen n tb w → All (Sum n tb w) w.said
+  summed_unfallen untouched = All-nil (Sum n tb (beginning n))
+  summed_unfallen (stepped r s) = summed_step s (ok_unfallen n tb r) (summed_unfallen r)
+
   pub summed : {w : World} → Reach n tb w → All (Sum n tb w) w.said
-  summed none = All-nil (Sum n tb (beginning n))
-  summed (more r s) = summed_step s (ok_reach n tb r) (summed r)
+  summed r = summed_unfallen (unfallen n tb r)
 
 pub answers_true : AnswersTrue
 answers_true n tb w reach i j a m h = (all_mem (Sum n tb w) h (summed n tb reach)).2

@@ -2,6 +2,7 @@
 -- Assumes nothing.
 use Rattle.std.proofs.Common.{◌≡◌, ℕ, ◌+◌, ◌<◌, ◌≤◌, true, false, eqb, ◌⊎◌, inl, inr, List, [], ◌∷◌, ◌++◌, map, length, get_or, replicate, Some, None, Option, sym, refl, ap, ◌∙◌, arith}
 use Rattle.std.proofs.lemmas.List.{length-replicate}
+use Rattle.choosing.specs.Parties.{seats_of, some}
 use Rattle.choosing.specs.declared.party.Party.{Party}
 use Rattle.giving.specs.Channels.{fresh}
 use Rattle.state.specs.Changes.{apply, fits, forgotten, listed_all}
@@ -43,10 +44,10 @@ closed_next tb x e t h = h
 pub closed_before : (tb : Table) (x : State) (e : Record) (t : Train) → was_closed (apply tb x e) t ≡ false → was_closed x t ≡ false
 closed_before tb x e t h = false_from_ne_true (was_closed x t) (λ f. true≢false (sym (closed_next tb x e t f) ∙ h))
 
--- ---- tickets are of parties that the train has seats and stops for
+-- ---- tickets are of parties of somebody, that the train has seats and stops for
 
 abbrev pub Real : Table → Option Party → Type 0
-Real tb (Some p) = listed_all (tb p.train.0) p ≡ true
+Real tb (Some p) = (some (length (seats_of p)) ≡ true) × (listed_all (tb p.train.0) p ≡ true)
 Real tb None = Unit {0}
 
 real_forgotten : (tb : Table) (z : Train) (y : Option Party) → Real tb y → Real tb (forgotten z y)
@@ -56,15 +57,15 @@ real_forgotten tb z (Some p) h = cond_both (eqb z.0 p.train.0) None (Some p) (Re
 real_next : (tb : Table) (x : State) (e : Record) → fits tb x e ≡ true → All (Real tb) x.tickets → All (Real tb) (apply tb x e).tickets
 real_next tb x (Opened t) f h = rw (opened_beside (tb t.0) t x).tickets h
 real_next tb x (Closed t) f h = All-drop (Real tb) _ (map (forgotten t) x.tickets) (All-map (Real tb) (forgotten t) x.tickets (All-weaker (Real tb) (λ y. Real tb (forgotten t y)) (real_forgotten tb t) x.tickets h))
-real_next tb x (Sold n p) f h = All-push (Real tb) x.tickets (Some p) h (fits_sold tb x n p f).listed
+real_next tb x (Sold n p) f h = let g = fits_sold tb x n p f in All-push (Real tb) x.tickets (Some p) h (g.people, g.listed)
 real_next tb x (Undone n) f h = All-set (Real tb) x.tickets _ None tt h
 real_next tb x (Taken from n p) f h = rw (received_beside tb x p).tickets h
 real_next tb x e f h = h
 
-pub real_at : (tb : Table) (xs : List (Option Party)) (a : ℕ) (p : Party) → All (Real tb) xs → get_or xs a None ≡ Some p → listed_all (tb p.train.0) p ≡ true
+pub real_at : (tb : Table) (xs : List (Option Party)) (a : ℕ) (p : Party) → All (Real tb) xs → get_or xs a None ≡ Some p → Real tb (Some p)
 real_at tb xs a p h e = go (cases_lt a (length xs))
   where
-    go : (a < length xs) ⊎ (length xs ≤ a) → listed_all (tb p.train.0) p ≡ true
+    go : (a < length xs) ⊎ (length xs ≤ a) → Real tb (Some p)
     go (inl l) = rw e at (h a None l)
     go (inr l) = let z : None ≡ Some p = sym (get_or_past xs a None l) ∙ e in cc
 

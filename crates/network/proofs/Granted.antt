@@ -21,7 +21,8 @@ use Rattle.network.proofs.Sales.{has_sold_all}
 use Rattle.network.specs.Answers.{Wanted, words_of, beside_kept, sparing, SeatedOf, AskAnswer}
 use Rattle.network.specs.Places.{count_in, holding}
 use Rattle.network.specs.Promises.{Grants, Keeps}
-use Rattle.network.specs.Worlds.{World, state, Reach}
+use Rattle.network.specs.Falls.{Reach}
+use Rattle.network.specs.Worlds.{World, state}
 use Rattle.pieces.proofs.Anything.{something}
 use Rattle.pieces.proofs.Bitwise.{holds_zero}
 use Rattle.pieces.specs.Parts.{piece_of}

@@ -1,14 +1,14 @@
 -- A timetable with more trains.
 -- Assumes nothing.
-use Rattle.std.proofs.Common.{◌≡◌, ℕ, Bool, true, ◌&&◌, List, [], length, is_some, Some, None, fold, Option, sym, refl, ap, ◌∙◌, arith}
+use Rattle.std.proofs.Common.{◌≡◌, ℕ, Bool, true, ◌&&◌, length, is_some, Some, None, fold, Option, sym, refl, ap, ◌∙◌}
 use Rattle.choosing.specs.Parties.{seats_of, some as some_people}
 use Rattle.choosing.specs.declared.party.Party.{Party}
 use Rattle.network.proofs.Known.{known_all}
-use Rattle.network.proofs.Linked.{Intact, ok_reach, wrote_ind}
-use Rattle.network.proofs.Lists.{slice_index_same}
+use Rattle.network.proofs.Linked.{every}
 use Rattle.network.proofs.Local.{listed_row, listed_party, fits_opened, fits_taken}
+use Rattle.network.specs.Falls.{Site, Move, steps, syncs, falls, none, more, Reached, Reach}
 use Rattle.network.specs.Promises.{Extends, Grows}
-use Rattle.network.specs.Worlds.{World, journal, state, Step, writes, reminds, accounts, asks, answers, tells, none, more, Reach, beginning}
+use Rattle.network.specs.Worlds.{World, state, Step, writes, reminds, accounts, asks, answers, tells}
 use Rattle.pieces.specs.declared.names.Train.{Train}
 use Rattle.pieces.specs.declared.piece.Piece.{Piece}
 use Rattle.state.specs.Changes.{apply, fits, listed_all, opened, returnable}
@@ -40,7 +40,7 @@ module _ (tb ub : Table) (ext : Extends tb ub) where
   party_more : (p : Party) (c : Bool) → (listed_all (tb p.train.0) p && c) ≡ true → (listed_all (ub p.train.0) p && c) ≡ true
   party_more p c h = let (a, b) = and_parts (listed_all (tb p.train.0) p) c h in and_from (listed_all (ub p.train.0) p) c (ap (λ o. listed_all o p) (sym (there_all p a)) ∙ a) b
 
-  fits_more : (x : State) (e : Record) → fits tb x e ≡ true → fits ub x e ≡ true
+  pub fits_more : (x : State) (e : Record) → fits tb x e ≡ true → fits ub x e ≡ true
   fits_more x (Opened t) f = let (a, b) = and_parts (is_some (tb t.0)) _ f in and_from (is_some (ub t.0)) _ (ap is_some (sym (some t.0 a)) ∙ a) b
   fits_more x (Sold n p) f = let (a, b) = and_parts (some_people (length (seats_of p))) _ f in and_from (some_people (length (seats_of p))) _ a (party_more p _ b)
   fits_more x (Undone n) f = go (ticket_of x n.0) f
@@ -52,33 +52,33 @@ module _ (tb ub : Table) (ext : Extends tb ub) where
   fits_more x (Taken from n p) f = listed_more p _ f
   fits_more x e f = f
 
-  apply_more : (x : State) (e : Record) → fits tb x e ≡ true → apply tb x e ≡ apply ub x e
+  pub apply_more : (x : State) (e : Record) → fits tb x e ≡ true → apply tb x e ≡ apply ub x e
   apply_more x (Opened t) f = ap (λ o. opened o t x) (some t.0 (fits_opened tb x t f).0)
   apply_more x (Taken from n p) f = rw (there p (fits_taken tb x from n p f).listed) refl
   apply_more x e f = refl
 
   module _ (n : ℕ) where
-    abbrev Same : World → Type 0
-    Same w = (i : ℕ) → state n tb w i ≡ state n ub w i
+    same : {w : World} → Reach n tb w → (i : ℕ) → state n tb w i ≡ state n ub w i
+    same r i =
+        every n tb (λ i js. fold (apply tb) (begun n i) js ≡ fold (apply ub) (begun n i) js) (λ i. refl)
+        (λ i js e _ f h. fold_push (apply tb) (begun n i) js e ∙ apply_more (fold (apply tb) (begun n i) js) e f ∙ ap (λ x. apply ub x e) h ∙ sym (fold_push (apply ub) (begun n i) js e)) r i
 
-    step_more : {w v : World} → Step n tb w v → Intact n tb w → ((i : ℕ) (t : Train) → is_open (state n tb w i) t ≡ true → is_some (tb t.0) ≡ true) → Same w → Step n ub w v × Same v
-    step_more (writes w i e l t f) ok known same = (
-      writes w i e l t (rw (← same i) (fits_more (state n tb w i) e f)),
-      wrote_ind w i e (omega (arith, ok.count)) (λ k js. fold (apply tb) (begun n k) js ≡ fold (apply ub) (begun n k) js)
-          (fold_push (apply tb) (begun n i) (journal w i) e ∙ apply_more (state n tb w i) e f ∙ ap (λ x. apply ub x e) (same i) ∙ sym (fold_push (apply ub) (begun n i) (journal w i) e)) same,
-    )
-    step_more (reminds w i j k l) ok known same = (rw (same i) (reminds w i j k (rw (← same i) l)), same)
-    step_more (accounts w i j) ok known same = (rw (same i) (accounts w i j), same)
-    step_more (asks w i j d) ok known same = (rw (same i) (asks w i j d), same)
-    step_more (answers w i j l) ok known same = (rw (same i) (answers w i j (rw (← same i) l)), same)
-    step_more (tells w i j t o) ok known same = (rw (same i, some t.0 (known i t o)) (tells w i j t (rw (← same i) o)), same)
+    step_more : {w v : World} → Step n tb w v → ((i : ℕ) (t : Train) → is_open (state n tb w i) t ≡ true → is_some (tb t.0) ≡ true) → ((i : ℕ) → state n tb w i ≡ state n ub w i) → Step n ub w v
+    step_more (writes w i e l t f) known same = writes w i e l t (rw (← same i) (fits_more (state n tb w i) e f))
+    step_more (reminds w i j k l) known same = rw (same i) (reminds w i j k (rw (← same i) l))
+    step_more (accounts w i j) known same = rw (same i) (accounts w i j)
+    step_more (asks w i j d) known same = rw (same i) (asks w i j d)
+    step_more (answers w i j l) known same = rw (same i) (answers w i j (rw (← same i) l))
+    step_more (tells w i j t o) known same = rw (same i, some t.0 (known i t o)) (tells w i j t (rw (← same i) o))
 
-    first_same : Same (beginning n)
-    first_same i = rw (slice_index_same {A = List Record} [] n i) refl
+    move_more : {s t : Site} → Move n tb s t → Reached n tb s → Move n ub s t
+    move_more (steps w v ks a c) r = steps w v ks (step_more a (known_all n tb (ks, r)) (same (ks, r))) c
+    move_more (syncs s i) r = syncs s i
+    move_more (falls s i k h) r = falls s i k h
 
-    reach_more : {w : World} → Reach n tb w → Reach n ub w × Same w
-    reach_more none = (none, first_same)
-    reach_more (more r s) = let (q, same) = reach_more r in let (t, next) = step_more s (ok_reach n tb r) (known_all n tb r) same in (more q t, next)
+    reach_more : {s : Site} → Reached n tb s → Reached n ub s
+    reach_more none = none
+    reach_more (more r m) = more (reach_more r) (move_more m r)
 
 pub grows : Grows
-grows n tb ub w ext r = reach_more tb ub ext n r
+grows n tb ub s ext r = (reach_more tb ub ext n r, same tb ub ext n (s.synced, r))

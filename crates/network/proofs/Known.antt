@@ -8,7 +8,8 @@ use Rattle.network.proofs.Linked.{every}
 use Rattle.network.proofs.Local.{fits_opened, fits_taken}
 use Rattle.network.proofs.Moves.{Received, shut, there, anew, received_by}
 use Rattle.network.proofs.Trains.{opened_same, closing_same, closing_shut}
-use Rattle.network.specs.Worlds.{World, state, Reach}
+use Rattle.network.specs.Falls.{Reach}
+use Rattle.network.specs.Worlds.{World, state}
 use Rattle.pieces.specs.declared.names.Train.{Train}
 use Rattle.state.specs.Changes.{apply, fits, opened, returned}
 use Rattle.state.specs.States.{State, begun, place_of, is_open, known, was_closed, ticket_of}

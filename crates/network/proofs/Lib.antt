@@ -1,4 +1,6 @@
 pub mod Lists
+pub mod Sites
+pub mod Unfallen
 pub mod Sum
 pub mod Count
 pub mod Slots
@@ -23,3 +25,5 @@ pub mod Grow
 pub mod Asked
 pub mod Bridge
 pub mod Tallies
+pub mod Gave
+pub mod Lost

@@ -19,10 +19,12 @@ use Rattle.network.proofs.Moves.{hears, heard_next}
 use Rattle.network.proofs.Stock.{stock, due, all_taken}
 use Rattle.network.proofs.Sum.{sum_to, sum_cong, sum_add, sum_swap, sum_has, sum_one, sum_at, sum_peak, sum_le}
 use Rattle.network.proofs.Trains.{share, share_le, share_elsewhere, home}
+use Rattle.network.proofs.Unfallen.{Unfallen, untouched, stepped, unfallen}
+use Rattle.network.specs.Falls.{Reach}
 use Rattle.network.specs.Places.{count_in, under_way}
 use Rattle.asking.specs.Replies.{request}
 use Rattle.asking.specs.Ticks.{reminder, telling}
-use Rattle.network.specs.Worlds.{World, journal, state, channel, Backed, wrote, spoke, account, settlement, Step, writes, reminds, accounts, asks, answers, tells, Steps, none, more, Reach, beginning}
+use Rattle.network.specs.Worlds.{World, journal, state, channel, Backed, wrote, spoke, account, settlement, Step, writes, reminds, accounts, asks, answers, tells, beginning}
 use Rattle.pieces.specs.Parts.{blank}
 use Rattle.pieces.specs.declared.names.Train.{Train}
 use Rattle.pieces.specs.declared.piece.Piece.{Piece}
@@ -283,12 +285,12 @@ module _ (n : ℕ) (tb : Table) where
         said = All-nil (Said (beginning n).journals);
       }
 
-  pub ok_steps : {w v : World} → Steps n tb w v → Intact n tb w → Intact n tb v
-  ok_steps none ok = ok
-  ok_steps (more r s) ok = ok_step s (ok_steps r ok)
+  pub ok_unfallen : {w : World} → Unfallen n tb w → Intact n tb w
+  ok_unfallen untouched = ok_begin
+  ok_unfallen (stepped r s) = ok_step s (ok_unfallen r)
 
   pub ok_reach : {w : World} → Reach n tb w → Intact n tb w
-  ok_reach r = ok_steps r ok_begin
+  ok_reach r = ok_unfallen (unfallen n tb r)
 
 -- what holds of an empty journal, and is kept by each record that fits, holds of each station's journal
 module _ (n : ℕ) (tb : Table) (P : ℕ → List Record → Type 0) (first : (i : ℕ) → P i []) (next : (i : ℕ) (js : List Record) (e : Record) → Sound (fold (apply tb) (begun n i) js) → fits tb (fold (apply tb) (begun n i) js) e ≡ true → P i js → P i (js ++ e ∷ [])) where
@@ -300,6 +302,9 @@ module _ (n : ℕ) (tb : Table) (P : ℕ → List Record → Type 0) (first : (i
   kept (answers w i j l) ok h = h
   kept (tells w i j t o) ok h = h
 
+  every_unfallen : {w : World} → Unfallen n tb w → (i : ℕ) → P i (journal w i)
+  every_unfallen untouched i = rw (slice_index_same {A = List Record} [] n i) (first i)
+  every_unfallen (stepped r s) i = kept s (ok_unfallen n tb r) (every_unfallen r) i
+
   pub every : {w : World} → Reach n tb w → (i : ℕ) → P i (journal w i)
-  every none i = rw (slice_index_same {A = List Record} [] n i) (first i)
-  every (more r s) i = kept s (ok_reach n tb r) (every r) i
+  every r = every_unfallen (unfallen n tb r)

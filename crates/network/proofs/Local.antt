@@ -2,7 +2,7 @@
 -- Assumes nothing.
 use Rattle.std.proofs.Common.{◌≡◌, ℕ, ◌+◌, ◌-◌, ◌<◌, ◌≤◌, max, true, false, ◌||◌, eqb, List, [], ◌∷◌, ◌++◌, length, drop, is_some, Some, None, Option, sym, refl, ap, ◌∙◌, arith, length-append, drop-drop}
 use Rattle.std.proofs.lemmas.List.{drop-append-le}
-use Rattle.choosing.specs.Parties.{below, seats_of}
+use Rattle.choosing.specs.Parties.{below, seats_of, some}
 use Rattle.choosing.specs.declared.party.Party.{Party}
 use Rattle.giving.specs.Channels.{Chan, gave, declined, took, heard_to, line}
 use Rattle.giving.specs.declared.ids.Ask.{Ask}
@@ -84,6 +84,7 @@ module _ (tb : Table) (x : State) where
   fits_opened t f = grind (arith, nat_tests)
 
   pub record FitsSold (n : Ticket) (p : Party) : Type 0 where
+    pub people : some (length (seats_of p)) ≡ true
     pub listed : listed_all (tb p.train.0) p ≡ true
     pub «open» : is_open x p.train ≡ true
     pub held : holds_all x p ≡ true

@@ -6,7 +6,8 @@ use Rattle.network.proofs.Linked.{every}
 use Rattle.network.proofs.Local.{fits_asked, fits_sold}
 use Rattle.network.proofs.Moves.{opened_beside, returned_beside, received_beside}
 use Rattle.network.specs.Promises.{AsksRise, NumbersRise}
-use Rattle.network.specs.Worlds.{World, journal, Reach}
+use Rattle.network.specs.Falls.{Reach}
+use Rattle.network.specs.Worlds.{World, journal}
 use Rattle.state.specs.Changes.{all_fit, apply, fits, forgotten, stale}
 use Rattle.state.specs.States.{State, begun, sold, ticket_of}
 use Rattle.state.specs.declared.record.Record.{Record}
@@ -28,7 +29,8 @@ module _ (tb : Table) where
       let (a, b) = and_parts (fits tb s x) (all_fit tb (apply tb s x) xs) h in
       and_from _ _ a (fit_push (apply tb s x) xs e b f)
 
-fitting : (n : ℕ) (tb : Table) {w : World} → Reach n tb w → (i : ℕ) → all_fit tb (begun n i) (journal w i) ≡ true
+-- so does every journal
+pub fitting : (n : ℕ) (tb : Table) {w : World} → Reach n tb w → (i : ℕ) → all_fit tb (begun n i) (journal w i) ≡ true
 fitting n tb reach i = every n tb (λ i js. all_fit tb (begun n i) js ≡ true) (λ i. refl) (λ i js e _ f h. fit_push tb (begun n i) js e h f) reach i
 
 -- ---- a count that never falls, and that numbers are taken from

@@ -59,7 +59,7 @@ module _ (n : ℕ) (tb : Table) (w : World) (ok : Intact n tb w) where
 
   -- what is somewhere is of a train that has it
   pub somewhere : (t : Train) (s u : ℕ) (l : s < 400) → 0 < total n tb w ok t s u l → (r : Row) × (tb t.0 ≡ Some r) × (s < r.seats) × (u < stretches r)
-  somewhere t s u l h = let (k, d) = sum_some n (λ k. due n tb t s u l (state n tb w k)) (omega (arith, h, total_most n tb w ok t s u l)) in go (known (state n tb w k) t) (state n tb w k).me (tb t.0) refl d
+  somewhere t s u l h = let (k, _, d) = sum_some n (λ k. due n tb t s u l (state n tb w k)) (omega (arith, h, total_most n tb w ok t s u l)) in go (known (state n tb w k) t) (state n tb w k).me (tb t.0) refl d
     where
       go : (b : Bool) (i : ℕ) (o : Option Row) → tb t.0 ≡ o → 0 < cond b (share o i s u) 0 → (r : Row) × (tb t.0 ≡ Some r) × (s < r.seats) × (u < stretches r)
       go b i None e d = absurd (grind arith)
@@ -96,7 +96,7 @@ module _ (t : Train) (s u : ℕ) where
   count_both (p ∷ ps) (suc k) (suc j) l m d g h = omega (arith, count_cons t s u p ps, count_both ps k j (omega arith) (omega arith) (λ e. d (ap suc e)) g h)
 
   -- a ticket that has the stretch, and two
-  count_one : (xs : List (Option Party)) (a : ℕ) (p : Party) → get_or xs a None ≡ Some p → 1 ≤ count_in t s u (pieces_of p) → 1 ≤ count_in t s u (standing xs)
+  pub count_one : (xs : List (Option Party)) (a : ℕ) (p : Party) → get_or xs a None ≡ Some p → 1 ≤ count_in t s u (pieces_of p) → 1 ≤ count_in t s u (standing xs)
   count_one xs a p e h = omega (arith, count_returned t s u xs a p e, h)
 
   count_two : (xs : List (Option Party)) (a b : ℕ) (p q : Party) → (a ≡ b → ⊥) → get_or xs a None ≡ Some p → get_or xs b None ≡ Some q → 1 ≤ count_in t s u (pieces_of p) → 1 ≤ count_in t s u (pieces_of q) → 2 ≤ count_in t s u (standing xs)
@@ -119,7 +119,7 @@ twice n tb w reach i j a b k m p q li lj e f lk lm d t s u g h = go (cases_eq i 
     z = record { 0 = t }
 
     row : ListedAll (tb p.train.0) p
-    row = listed_party (tb p.train.0) p (real_at tb (state n tb w i).tickets a p (ok.fine i).real e)
+    row = listed_party (tb p.train.0) p (real_at tb (state n tb w i).tickets a p (ok.fine i).real e).1
 
     seat : s ≡ (get_or (pieces_of p) k blank).seat.0
     seat = grind (arith, nat_tests)
@@ -176,5 +176,5 @@ only n tb w reach i = (held, tickets)
 
     tickets : (a : ℕ) (p : Party) → get_or (state n tb w i).tickets a None ≡ Some p → (r : Row) × (tb p.train.0 ≡ Some r) × (p.trip.to.0 < r.stops) × AllByRecursion (λ (q : Piece). q.seat.0 < r.seats) (pieces_of p)
     tickets a p e =
-        let h = listed_party (tb p.train.0) p (real_at tb (state n tb w i).tickets a p (ok.fine i).real e) in
+        let h = listed_party (tb p.train.0) p (real_at tb (state n tb w i).tickets a p (ok.fine i).real e).1 in
         (h.row, h.is, h.to, seats_all p (seats_of p) h.row.seats h.seats)

@@ -13,7 +13,8 @@ use Rattle.network.proofs.Slots.{train_is}
 use Rattle.network.proofs.Stock.{among_push}
 use Rattle.network.proofs.Trains.{place_z, place_t, not_free, opened_same, closed_place, closing_same, closing_shut}
 use Rattle.network.specs.Promises.{SoldIn, KeepsNone}
-use Rattle.network.specs.Worlds.{World, journal, state, Reach}
+use Rattle.network.specs.Falls.{Reach}
+use Rattle.network.specs.Worlds.{World, journal, state}
 use Rattle.pieces.specs.Memory.{word_at}
 use Rattle.pieces.specs.declared.names.Train.{Train}
 use Rattle.state.specs.Changes.{apply, fits, opened, closing, returned}

@@ -28,10 +28,10 @@ sum_zero zero f h = refl
 sum_zero (suc n) f h = omega (arith, h n (omega arith), sum_zero n f (λ k l. h k (omega arith)))
 
 -- a sum that is not zero has a part that is not
-pub sum_some : (n : ℕ) (f : ℕ → ℕ) → 0 < sum_to n f → (k : ℕ) × (0 < f k)
+pub sum_some : (n : ℕ) (f : ℕ → ℕ) → 0 < sum_to n f → (k : ℕ) × (k < n) × (0 < f k)
 unfolding sum_to
 sum_some zero f h = absurd (omega arith)
-sum_some (suc n) f h = ⊎_elim (λ e. sum_some n f (omega (arith, e))) (λ d. (n, omega (arith, d))) (cases_eq (f n) 0)
+sum_some (suc n) f h = ⊎_elim (λ e. let (k, l, d) = sum_some n f (omega (arith, h, e)) in (k, omega (arith, l), d)) (λ d. (n, omega arith, omega (arith, d))) (cases_eq (f n) 0)
 
 -- two functions that differ at one place only
 pub sum_at : (n i : ℕ) (f g : ℕ → ℕ) → i < n → ((k : ℕ) → (k ≡ i → ⊥) → f k ≡ g k) → sum_to n f + g i ≡ sum_to n g + f i

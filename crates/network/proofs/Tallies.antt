@@ -7,7 +7,8 @@ use Rattle.network.proofs.Once.{only}
 use Rattle.network.specs.Answers.{HowMany, words_of}
 use Rattle.network.specs.Places.{holding}
 use Rattle.network.specs.Promises.{TellsTrue}
-use Rattle.network.specs.Worlds.{World, state, Reach}
+use Rattle.network.specs.Falls.{Reach}
+use Rattle.network.specs.Worlds.{World, state}
 use Rattle.pieces.proofs.Anything.{something}
 use Rattle.pieces.proofs.Bitwise.{covered_decides}
 use Rattle.pieces.proofs.Blocks.{part_at}

@@ -22,7 +22,8 @@ use Rattle.network.proofs.Sum.{sum_has}
 use Rattle.network.specs.Answers.{Splits}
 use Rattle.network.specs.Places.{count_in}
 use Rattle.network.specs.Promises.{Undoes}
-use Rattle.network.specs.Worlds.{World, state, Reach}
+use Rattle.network.specs.Falls.{Reach}
+use Rattle.network.specs.Worlds.{World, state}
 use Rattle.pieces.specs.Memory.{together_all}
 use Rattle.pieces.specs.Parts.{piece_of}
 use Rattle.pieces.specs.Stretches.{plus}
@@ -136,7 +137,7 @@ undoes n tb w reach i m = record { stands = stands; none = λ e. ap (λ y. unles
     stands : (p : Party) → ticket_of x m.0 ≡ Some p → (is_open x p.train ≡ true) × (decided tb x (Undo m) ≡ Ok (Done (Undone m))) × AllByRecursion (λ (q : Piece). holds_piece (apply tb x (Undone m)) q ≡ true) (pieces_of p) × Splits (apply tb x (Undone m)) x (pieces_of p) × (ticket_of (apply tb x (Undone m)) m.0 ≡ None)
     stands p e =
         let a : get_or x.tickets at None ≡ Some p = grind (arith, nat_tests) in
-        let l = real_at tb x.tickets at p (ok.fine i).real a in
+        let l = (real_at tb x.tickets at p (ok.fine i).real a).1 in
         let o = open_at x at p (open_all n tb reach i) a in (
           o,
           rw (e, l, o) refl,

@@ -1,4 +1,7 @@
 pub mod Worlds
+pub mod Falls
 pub mod Places
 pub mod Answers
 pub mod Promises
+pub mod Lost
+pub mod Runs

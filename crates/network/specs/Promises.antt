@@ -1,32 +1,29 @@
--- What is promised of every world that stations can come to. Each is a type; a proof of the type is the theorem.
-use Rattle.std.specs.Prelude.{◌≡◌, ℕ, ◌+◌, ◌<◌, ◌≤◌, true, false, ◌⊎◌, List, [], ◌∷◌, ◌++◌, length, Some, None, Ok, Err, ◌≢◌, slice_index_or, slice_set}
+-- What is promised of every world that stations can come to, whatever falls. Each is a type; a proof of the type is the theorem.
+use Rattle.std.specs.Prelude.{◌≡◌, ℕ, ◌+◌, ◌<◌, ◌≤◌, true, false, ◌⊎◌, List, [], ◌∷◌, ◌++◌, length, Some, None, Ok, Err, ◌≢◌, slice_index_or, take}
 use mathlib.Core.List.{Memᴰ}
 use Rattle.choosing.specs.Parties.{pieces_of}
 use Rattle.choosing.specs.declared.party.Party.{Party}
-use Rattle.asking.specs.Events.{Response, resolved}
+use Rattle.asking.specs.Events.{resolved}
 use Rattle.asking.specs.Minds.{Mind}
-use Rattle.asking.specs.Replies.{lasting, minded, spoken, written}
 use Rattle.asking.specs.Ticks.{tally_by}
-use Rattle.asking.specs.declared.event.Event.{Event}
 use Rattle.asking.specs.declared.event.Event.TheVariants.{Call}
 use Rattle.giving.specs.declared.ids.Ask.{Ask}
 use Rattle.giving.specs.declared.ids.StationId.{StationId}
 use Rattle.giving.specs.declared.ids.Ticket.{Ticket}
 use Rattle.giving.specs.declared.message.Body.TheVariants as body
-use Rattle.giving.specs.declared.message.Message.{Message}
 use Rattle.giving.specs.declared.refusal.Refusal.TheVariants.{NothingHeld}
-use Rattle.ledger.specs.Decisions.{Answer, decided, decided_open, listing, messages, after, records}
+use Rattle.ledger.specs.Decisions.{decided, messages, after, records}
 use Rattle.state.specs.States.{State, is_open, was_closed, kept, known, openable, holds_piece, sold, tickets_left}
 use Rattle.pieces.specs.declared.demand.Demand.{Demand}
-use Rattle.ledger.specs.declared.input.Input.{Input}
-use Rattle.ledger.specs.declared.input.Input.TheVariants.{Sell, Give, Take, Hear, Grant}
+use Rattle.ledger.specs.declared.input.Input.TheVariants.{Sell, Give, Grant}
 use Rattle.ledger.specs.declared.input.Input.TheVariants as input
 use Rattle.ledger.specs.declared.input.Outcome.TheVariants.{Done}
 use Rattle.state.specs.declared.record.Record.{Record}
 use Rattle.state.specs.declared.record.Record.TheVariants.{Sold, Given, Asked, Declined}
 use Rattle.network.specs.Answers.{Wanted, Seated, SaleAnswer, GiftAnswer, AskAnswer, TurnAnswer, UndoAnswer, HowMany, covering}
+use Rattle.network.specs.Falls.{Site, safe, Moves, Carries, Reached, Reach}
 use Rattle.network.specs.Places.{holding, places, under_way}
-use Rattle.network.specs.Worlds.{World, journal, state, given_for, Steps, Reach, Carries}
+use Rattle.network.specs.Worlds.{World, journal, state, given_for}
 use Rattle.pieces.specs.Parts.{blank, has}
 use Rattle.pieces.specs.declared.names.Train.{Train}
 use Rattle.pieces.specs.declared.piece.Piece.{Piece}
@@ -142,47 +139,23 @@ abbrev pub Settled : List Piece → State → Type 0
 Settled [] y = Unit {0}
 Settled (q ∷ qs) y = (known y q.train ≡ false) × (openable y ≡ false)
 
--- From every world, by saying and taking alone, all that is on its way arrives, but for want of room: it is held by the station
+-- From everywhere, by syncing, saying and taking alone, all that is on its way arrives, but for want of room: it is held by the station
 -- that it was given to, if that one has not closed the train.
 abbrev pub Arrives : Type 0
-Arrives = (n : ℕ) (tb : Table) (w : World) → Reach n tb w → (v : World) × Carries n tb w v × Reach n tb v × ((i j : ℕ) → i < n → j < n →
-    Settled (under_way i j (state n tb v i) (state n tb v j)) (state n tb v j)
-    × ((p : Piece) → Memᴰ p (under_way i j (state n tb w i) (state n tb w j)) →
-    Memᴰ p (under_way i j (state n tb v i) (state n tb v j)) ⊎ ((was_closed (state n tb v j) p.train ≡ true) ⊎ (holds_piece (state n tb v j) p ≡ true))))
+Arrives = (n : ℕ) (tb : Table) (s : Site) → Reached n tb s → (t : Site) × Carries n tb s t × Reached n tb t × ((i j : ℕ) → i < n → j < n →
+    Settled (under_way i j (state n tb t.world i) (state n tb t.world j)) (state n tb t.world j)
+    × ((p : Piece) → Memᴰ p (under_way i j (state n tb s.world i) (state n tb s.world j)) →
+    Memᴰ p (under_way i j (state n tb t.world i) (state n tb t.world j)) ⊎ ((was_closed (state n tb t.world j) p.train ≡ true) ⊎ (holds_piece (state n tb t.world j) p ≡ true))))
+
+-- ---- what stays
+
+-- What is synced stands at the front of the journal ever after, whatever falls.
+abbrev pub Remembers : Type 0
+Remembers = (n : ℕ) (tb : Table) (s t : Site) → Reached n tb s → Moves n tb s t → (i : ℕ) → (es : List Record) × (journal t.world i ≡ take (safe s i) (journal s.world i) ++ es)
 
 -- A timetable with more trains allows all that a smaller one does.
 abbrev pub Extends : Table → Table → Type 0
 Extends tb ub = (k : ℕ) (r : Row) → tb k ≡ Some r → ub k ≡ Some r
 
 abbrev pub Grows : Type 0
-Grows = (n : ℕ) (tb ub : Table) (w : World) → Extends tb ub → Reach n tb w → Reach n ub w × ((i : ℕ) → state n tb w i ≡ state n ub w i)
-
--- ---- what stations do is a run of such steps
-
--- the pieces that a station is given, and what it hears was taken, were said to it; who asks, answers or tells may say what he likes
-abbrev pub Heeds : List Message → ℕ → Input → Type 0
-Heeds ms i (Take from m p) = Memᴰ (record { from = from; to = record { 0 = i }; body = body.Given m p }) ms
-Heeds ms i (Hear from m) = Memᴰ (record { from = from; to = record { 0 = i }; body = body.Taken m }) ms
-Heeds ms i x = Unit {0}
-
-abbrev pub HeedsAll : List Message → ℕ → Event → Type 0
-HeedsAll ms i (Call x) = Heeds ms i x
-HeedsAll ms i e = Unit {0}
-
--- the world after an event at station i, with this in mind, that came to r: what it wrote, and what it said
-abbrev pub called : (n : ℕ) → Table → World → (i : ℕ) → Mind → Event → Response → World
-called n tb w i m e r =
-    record {
-      journals = slice_set w.journals i (journal w i ++ written (state n tb w i) r);
-      said = w.said ++ spoken tb (lasting tb (state n tb w i) r) (minded (state n tb w i) m e r) e r;
-    }
-
--- the world after station i was to open a train
-abbrev pub opened_by : World → (i : ℕ) → Answer → World
-opened_by w i o = record { journals = slice_set w.journals i (journal w i ++ records o); said = w.said }
-
--- Whatever a station decides and says of a call, of a message that was said to it, or of a tick, whatever it has in mind, is a run of steps, and so is
--- an opening, with the timetable that has the train's row.
-abbrev pub Runs : Type 0
-Runs = ((n : ℕ) (tb : Table) (w : World) → Reach n tb w → (i : ℕ) (m : Mind) (e : Event) → i < n → HeedsAll w.said i e → Steps n tb w (called n tb w i m e (resolved tb (state n tb w i) m e)))
-    × ((n : ℕ) (tb : Table) (w : World) → Reach n tb w → (i : ℕ) (r : Row) → i < n → Steps n (listing tb r (decided_open tb (state n tb w i) r)) w (opened_by w i (decided_open tb (state n tb w i) r)))
+Grows = (n : ℕ) (tb ub : Table) (s : Site) → Extends tb ub → Reached n tb s → Reached n ub s × ((i : ℕ) → state n tb s.world i ≡ state n ub s.world i)

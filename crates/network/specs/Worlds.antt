@@ -49,8 +49,12 @@ Backed ms i (Heard from n) = Memᴰ (record { from = from; to = record { 0 = i }
 Backed ms i (Asked a) = Unit {0}
 Backed ms i (Declined to a) = Unit {0}
 
+-- the world, with these records for the journal of station i
+abbrev pub with_journal : World → ℕ → List Record → World
+with_journal w i js = record { journals = slice_set w.journals i js; said = w.said }
+
 abbrev pub wrote : World → ℕ → Record → World
-wrote w i e = record { journals = slice_set w.journals i (journal w i ++ e ∷ []); said = w.said }
+wrote w i e = with_journal w i (journal w i ++ e ∷ [])
 
 abbrev pub spoke : World → Message → World
 spoke w m = record { journals = w.journals; said = w.said ++ m ∷ [] }
@@ -72,8 +76,7 @@ given_for j a js = count_by (is_gift j a) js
 abbrev pub settlement : State → List Record → (i : ℕ) → StationId → Message
 settlement s js i j = reckoning i j (record { 0 = (channel s j.0).answered }) (given_for j (record { 0 = (channel s j.0).answered }) js)
 
--- A station writes a record that fits its state, or says something that is true of it. What it says comes behind what it
--- writes, so a station that falls between the two has written and said nothing.
+-- A station writes a record that fits its state, or says something that is true of it.
 pub data Step (n : ℕ) (tb : Table) : World → World → Type 0 where
   writes : (w : World) (i : ℕ) (e : Record) → i < n → Backed w.said i e → fits tb (state n tb w i) e ≡ true → Step n tb w (wrote w i e)
   reminds : (w : World) (i j k : ℕ) → k < length (channel (state n tb w i) j).waiting → Step n tb w (spoke w (reminder (state n tb w i) i j k))
@@ -82,23 +85,10 @@ pub data Step (n : ℕ) (tb : Table) : World → World → Type 0 where
   answers : (w : World) (i : ℕ) (j : StationId) → 1 ≤ (channel (state n tb w i) j.0).answered → Step n tb w (spoke w (settlement (state n tb w i) (journal w i) i j))
   tells : (w : World) (i : ℕ) (j : StationId) (t : Train) → is_open (state n tb w i) t ≡ true → Step n tb w (spoke w (telling tb (state n tb w i) i j t))
 
--- any number of steps
-pub data Steps (n : ℕ) (tb : Table) (w : World) : World → Type 0 where
-  none : Steps n tb w w
-  more : {v u : World} → Steps n tb w v → Step n tb v u → Steps n tb w u
-
 -- what carries a piece from one station to another: it is said, and it is taken
 pub data Carry (n : ℕ) (tb : Table) : World → World → Type 0 where
   said : (w : World) (i j k : ℕ) → k < length (channel (state n tb w i) j).waiting → Carry n tb w (spoke w (reminder (state n tb w i) i j k))
   taken : (w : World) (j : ℕ) (from : StationId) (m : Number) (p : Piece) → j < n → Backed w.said j (Taken from m p) → fits tb (state n tb w j) (Taken from m p) ≡ true → Carry n tb w (wrote w j (Taken from m p))
 
-pub data Carries (n : ℕ) (tb : Table) (w : World) : World → Type 0 where
-  here : Carries n tb w w
-  onward : {v u : World} → Carries n tb w v → Carry n tb v u → Carries n tb w u
-
 abbrev pub beginning : ℕ → World
 beginning n = record { journals = replicate n []; said = [] }
-
--- the worlds that n stations can come to
-abbrev pub Reach : (n : ℕ) → Table → World → Type 0
-Reach n tb w = Steps n tb (beginning n) w

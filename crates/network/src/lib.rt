@@ -1,7 +1,9 @@
 // Stations, each with its journal, and all that was ever said between them: each stretch of each seat is in one place.
 #![tactic(auto)]
 
-ghost use Rattle.network.specs.Promises.{OnePlace, NeverTwice, NumbersRise, OnlyWhatIs, SellsAlone, Sells, Gives, Undoes, AsksFirst, Grants, Keeps, KeepsNone, AnswersOnce, AnswersTrue, AsksRise, TellsTrue, Arrives, Grows, Runs};
+ghost use Rattle.network.specs.Promises.{OnePlace, NeverTwice, NumbersRise, OnlyWhatIs, SellsAlone, Sells, Gives, Undoes, AsksFirst, Grants, Keeps, KeepsNone, AnswersOnce, AnswersTrue, AsksRise, TellsTrue, Arrives, Remembers, Grows};
+ghost use Rattle.network.specs.Lost.{LostListed};
+ghost use Rattle.network.specs.Runs.{Runs};
 
 pub mod place;
 
@@ -85,9 +87,19 @@ pub fn tells_true_stands()
     ensures { TellsTrue }
 {}
 
-// What is on its way arrives, by saying and taking alone.
+// What is on its way arrives, by syncing, saying and taking alone.
 pub fn arrives_stands()
     ensures { Arrives }
+{}
+
+// What is synced stands at the front of the journal ever after.
+pub fn remembers_stands()
+    ensures { Remembers }
+{}
+
+// A train of a station that lost its file is on the list of another one.
+pub fn lost_listed_stands()
+    ensures { LostListed }
 {}
 
 // Trains may be added to the timetable at any time.
@@ -95,7 +107,7 @@ pub fn grows_stands()
     ensures { Grows }
 {}
 
-// Whatever a station decides and says is a run of steps.
+// Whatever a station decides and says is a run of moves, and so is a fall in the midst of it.
 pub fn runs_stand()
     ensures { Runs }
 {}

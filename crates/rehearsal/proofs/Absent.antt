@@ -19,7 +19,7 @@ use Rattle.pieces.specs.declared.names.Train.{Train}
 use Rattle.pieces.specs.declared.piece.Piece.{Piece}
 use Rattle.pieces.specs.declared.trip.Trip.{Trip}
 use Rattle.rehearsal.proofs.Gathered.{gather_none}
-use Rattle.rehearsal.specs.Lives.{Lives, shown, world_of, nowhere}
+use Rattle.rehearsal.specs.Lives.{Lives, shown, journal_of, world_of, nowhere}
 use Rattle.rehearsal.specs.declared.post.Post.{Post}
 use Rattle.std.proofs.lemmas.Bool.{and_parts, ltb-true}
 use Rattle.std.proofs.lemmas.Bool.Decides.{nat_tests}
@@ -46,7 +46,7 @@ module _ (t : Train) (s u : ℕ) (far : 400 ≤ s) where
 
   ticket_none : (tb : Table) (x : Option Party) → Real tb x → count_in t s u (sold_by x) ≡ 0
   ticket_none tb None h = count_nil t s u
-  ticket_none tb (Some p) h = let r = listed_party (tb p.train.0) p h in seats_none p.train p.trip r.row.seats r.row.few (seats_of p) r.seats
+  ticket_none tb (Some p) h = let r = listed_party (tb p.train.0) p h.1 in seats_none p.train p.trip r.row.seats r.row.few (seats_of p) r.seats
 
   tickets_none : (tb : Table) (xs : List (Option Party)) → All (Real tb) xs → count_in t s u (standing xs) ≡ 0
   unfolding standing
@@ -56,7 +56,7 @@ module _ (t : Train) (s u : ℕ) (far : 400 ≤ s) where
   module _ (tb : Table) (ps : List Post) (ms : List Message) (lives : ∥ Lives tb ps ms ∥₁) where
     -- in a world that was reached
     pub sold_none : (i : ℕ) → i < length ps → count_in t s u (standing (get_or (map shown ps) i nowhere).tickets) ≡ 0
-    sold_none i l = ∥∥₁_elim lives (ℕ_set _ _) (λ v. ap (λ x. count_in t s u (standing x.tickets)) (v.faithful i l) ∙ tickets_none tb (state (length ps) tb (world_of ps ms) i).tickets ((ok_reach (length ps) tb v.reached).fine i).real)
+    sold_none i l = ∥∥₁_elim lives (ℕ_set _ _) (λ v. ap (λ x. count_in t s u (standing x.tickets)) (v.faithful i l) ∙ tickets_none tb (state (length ps) tb (world_of ps ms) i).tickets ((ok_reach (length ps) tb (map length (map journal_of ps), v.reached)).fine i).real)
 
     way_none : (i j : ℕ) → i < length ps → j < length ps → count_in t s u (under_way i j (get_or (map shown ps) i nowhere) (get_or (map shown ps) j nowhere)) ≡ 0
     way_none i j l m = ∥∥₁_elim lives (ℕ_set _ _) (λ v. ap₂ (λ x y. count_in t s u (under_way i j x y)) (v.faithful i l) (v.faithful j m) ∙ go v)
@@ -65,7 +65,7 @@ module _ (t : Train) (s u : ℕ) (far : 400 ≤ s) where
         go v =
             let n = length ps in
             let w = world_of ps ms in
-            let ok = ok_reach n tb v.reached in
+            let ok = ok_reach n tb (map length (map journal_of ps), v.reached) in
             omega (
               arith,
               ap (count_in t s u) (given_rest n tb w ok i j),

@@ -20,8 +20,8 @@ use Rattle.pieces.specs.declared.names.Seat.{Seat}
 use Rattle.pieces.specs.declared.names.Train.{Train}
 use Rattle.pieces.specs.declared.piece.Piece.{Piece}
 use Rattle.pieces.specs.declared.trip.Trip.{Trip}
-use Rattle.rehearsal.proofs.Living.{here_is}
-use Rattle.rehearsal.specs.Lives.{Lives, shown, nowhere}
+use Rattle.rehearsal.proofs.Posts.{here_is}
+use Rattle.rehearsal.specs.Lives.{Lives, shown, journal_of, nowhere}
 use Rattle.rehearsal.specs.declared.post.Post.{Post}
 use Rattle.state.specs.States.{State, place, is_open}
 use Rattle.std.proofs.lemmas.Bool.{cases_Bool, lt-ltb}
@@ -52,13 +52,13 @@ sold_counted t s u (x ∷ xs) = omega (arith, sum_by-cons (λ x. count_in t s u 
 -- ---- stations as they were read
 
 -- what is on its way, from the channels of both ends
-pub way_is : (ps : List Post) (i j : ℕ) (p q : Post) → i < length ps → p ≡ get_or ps i p → j < length ps → q ≡ get_or ps j q → (giver taker : Channels) → giver ≡ p.station.channels → taker ≡ q.station.channels →
+pub way_is : (ps : List Post) (i j : ℕ) (p q : Post) → i < length ps → p ≡ get_or ps i p → j < length ps → q ≡ get_or ps j q → (giver taker : Channels) → giver ≡ p.machine.station.channels → taker ≡ q.machine.station.channels →
     (m h : Number) (skip : ℕ) → m ≡ record { 0 = (line (chans taker) i).taken } → h ≡ record { 0 = (line (chans giver) j).heard } → skip ≡ m.0 - h.0 →
     drop skip (line (chans giver) j).waiting ≡ under_way i j (get_or (map shown ps) i nowhere) (get_or (map shown ps) j nowhere)
 way_is ps i j p q li ei lj ej giver taker eg et m h skip em eh es =
     ap₂ (λ (n : ℕ) (g : Channels). drop n (line (chans g) j).waiting) number eg ∙ ap₂ (under_way i j) (sym (here_is ps i p li ei)) (sym (here_is ps j q lj ej))
   where
-    number : skip ≡ (line (chans q.station.channels) i).taken - (line (chans p.station.channels) j).heard
+    number : skip ≡ (line (chans q.machine.station.channels) i).taken - (line (chans p.machine.station.channels) j).heard
     number = es ∙ ap₂ (λ (a b : ℕ). a - b) (ap (λ z. z.0) em ∙ ap (λ z. (line (chans z) i).taken) et) (ap (λ z. z.0) eh ∙ ap (λ z. (line (chans z) j).heard) eg)
 
 module _ (t : Train) (s u : ℕ) (l : s < 400) where
@@ -79,7 +79,7 @@ pub held_at : (tb : Table) (ps : List Post) (ms : List Message) → ∥ Lives tb
     (ltb s 400 && (is_open (shown p) t && holds (word_at (shown p).words (place (shown p) t) s) u)) ≡ holding t s u (get_or (map shown ps) i nowhere)
 held_at tb ps ms lives t s u l i p b e =
     ap (λ x. ltb s 400 && (is_open x t && holds (word_at x.words (place x t) s) u)) (sym (here_is ps i p b e))
-    ∙ ∥∥₁_elim lives (Bool-set _ _) (λ v. held_is t s u l (get_or (map shown ps) i nowhere) (subst Sound (sym (v.faithful i b)) ((ok_reach (length ps) tb v.reached).fine i).sound))
+    ∙ ∥∥₁_elim lives (Bool-set _ _) (λ v. held_is t s u l (get_or (map shown ps) i nowhere) (subst Sound (sym (v.faithful i b)) ((ok_reach (length ps) tb (map length (map journal_of ps), v.reached)).fine i).sound))
 
 -- ---- one list behind another
 

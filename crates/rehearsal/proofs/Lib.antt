@@ -1,4 +1,13 @@
 pub mod Absent
 pub mod Gathered
+pub mod Filed
+pub mod Restarting
+pub mod Posts
 pub mod Living
+pub mod Fallen
+pub mod Goings
+pub mod Rising
+pub mod Turning
+pub mod Turned
+pub mod Begun
 pub mod Finding

@@ -1,140 +1,135 @@
--- A world in memory after an event at one of its stations, and after an opening.
+-- A world in memory after a step of one of its stations, or a first part of one.
 -- Assumes nothing.
-use Rattle.std.proofs.Common.{◌≡◌, ℕ, zero, suc, ◌+◌, ◌<◌, true, false, cond, ◌⊎◌, List, [], ◌∷◌, ◌++◌, map, length, get_or, set, replicate, Some, fold, sym, refl, ap, ◌∙◌, subst, ap₂, inl, inr, ⊎_elim, arith, length-set, get_or-set_other, get_or-set_same, Ok, Err, ◌≤◌, length-append}
+use Rattle.std.proofs.Common.{◌≡◌, ℕ, zero, suc, ◌<◌, true, false, cond, ◌⊎◌, List, [], ◌∷◌, ◌++◌, map, length, get_or, set, replicate, Some, fold, sym, refl, ap, ◌∙◌, subst, inl, inr, ⊎_elim, arith, length-set, get_or-set_other, get_or-set_same, Ok, Err}
 use mathlib.Core.List.{Memᴰ}
-use lib.ListN.{length-map, get_or-append}
-use lib.Seq.{map-set, map-set_same, get_or_at}
+use lib.ListN.{length-map}
+use lib.Seq.{map-set}
 use Rattle.asking.specs.Events.{Response, resolved, event_of}
-use Rattle.asking.specs.Minds.{Mind, empty}
 use Rattle.asking.specs.Replies.{lasting, minded, spoken, written}
 use Rattle.asking.specs.declared.event.Event.{Event}
-use Rattle.giving.proofs.Mapped.{map_at}
 use Rattle.giving.specs.declared.ids.StationId.{StationId}
 use Rattle.giving.specs.declared.message.Body.{Body}
 use Rattle.giving.specs.declared.message.Body.TheVariants as body
 use Rattle.giving.specs.declared.message.Message.{Message}
 use Rattle.ledger.proofs.Decided.{opens_admitted}
-use Rattle.ledger.specs.Decisions.{Answer, decided_open, listing, after, records, for_memory}
+use Rattle.ledger.specs.Decisions.{Answer, decided_open, listing, records, for_memory}
 use Rattle.ledger.specs.declared.input.Outcome.TheVariants.{Done, Gave, Nothing, Passed}
-use Rattle.network.proofs.Bridge.{happens_any, opening, steps_then, put_extends}
+use Rattle.network.proofs.Bridge.{happens_any, opening, put_extends}
 use Rattle.network.proofs.Grow.{grows}
-use Rattle.network.proofs.Lists.{slice_index_same}
 use Rattle.network.proofs.Once.{once}
+use Rattle.network.proofs.Sites.{moves_then}
+use Rattle.network.specs.Falls.{site, sync, Moves, Reached}
 use Rattle.network.specs.Places.{holding, count_in, standing, under_way, gather, spots, places}
-use Rattle.network.specs.Promises.{HeedsAll, Extends}
+use Rattle.network.specs.Promises.{Extends}
+use Rattle.network.specs.Runs.{HeedsAll, Happens}
+use Rattle.network.specs.Worlds.{World, journal, state}
 use Rattle.network.specs.declared.place.Place.{Place}
 use Rattle.network.specs.declared.place.Place.TheVariants.{Held, Sold, Way}
-use Rattle.network.specs.Worlds.{journal, state, Steps, none, Reach}
 use Rattle.pieces.specs.declared.names.Train.{Train}
 use Rattle.rehearsal.proofs.Gathered.{gather_cong}
-use Rattle.rehearsal.specs.Lives.{Lives, shown, journal_of, mind_in, world_of, nowhere}
+use Rattle.rehearsal.proofs.Posts.{here_is, journals_then}
+use Rattle.rehearsal.specs.Lives.{Filed, Lives, shown, journal_of, mind_in, world_of, site_of, nowhere}
 use Rattle.rehearsal.specs.declared.post.Post.{Post}
 use Rattle.state.specs.Changes.{apply}
 use Rattle.state.specs.States.{State, begun, is_open, was_closed}
 use Rattle.state.specs.declared.record.Record.{Record}
-use Rattle.std.proofs.lemmas.List.{get_or_past, get_or_default, map_push, replicate_more}
-use Rattle.std.proofs.lemmas.List.Sums.{fold-append}
 use Rattle.std.proofs.lemmas.Bool.{cases_eq, cases_lt, false≢true}
+use Rattle.std.proofs.lemmas.List.{get_or_past}
+use Rattle.std.proofs.lemmas.List.Elements.{All-set}
+use Rattle.std.proofs.lemmas.List.Sums.{fold-append}
 use Rattle.timetable.specs.Rows.{Table, stretches}
 use Rattle.timetable.specs.declared.row.Row.{Row}
 
--- ---- a station as it was read, and as it is written
-
-module _ (ps : List Post) (i : ℕ) (p : Post) (b : i < length ps) (e : p ≡ get_or ps i p) where
-  pub here_is : get_or (map shown ps) i nowhere ≡ shown p
-  here_is = map_at shown ps i p nowhere b e
-
-  pub mind_is : get_or (map mind_in ps) i empty ≡ mind_in p
-  mind_is = map_at mind_in ps i p empty b e
-
-  same_post : (r : Post) → r ≡ get_or ps i r → p ≡ r
-  same_post r f = e ∙ get_or_default ps i p r b ∙ sym f
-
-  -- what holds of the station as it was read
-  pub at_post : (P : Post → State → Mind → Type 0) → P p (shown p) (mind_in p) → (r : Post) → r ≡ get_or ps i r → P r (get_or (map shown ps) i nowhere) (get_or (map mind_in ps) i empty)
-  at_post P h r f =
-      subst (λ z. P z (get_or (map shown ps) i nowhere) (get_or (map mind_in ps) i empty)) (same_post r f)
-      (subst (λ s. P p s (get_or (map mind_in ps) i empty)) (sym here_is) (subst (P p (shown p)) (sym mind_is) h))
-
-  pub states_are : (f : State → State) (q : Post) → shown q ≡ f (shown p) → map shown (set ps i q) ≡ set (map shown ps) i (f (get_or (map shown ps) i nowhere))
-  states_are f q v = map-set shown ps i q ∙ ap (set (map shown ps) i) (v ∙ ap f (sym here_is))
-
-  pub journals_then : (f : State → List Record) (q : Post) → journal_of q ≡ journal_of p ++ f (shown p) → map journal_of (set ps i q) ≡ set (map journal_of ps) i (get_or (map journal_of ps) i [] ++ f (get_or (map shown ps) i nowhere))
-  journals_then f q j = map-set journal_of ps i q ∙ ap (set (map journal_of ps) i) (j ∙ ap₂ (λ l es. l ++ es) (sym (map_at journal_of ps i p [] b e)) (ap f (sym here_is)))
-
-  pub minds_are : (f : State → Mind → Mind) (q : Post) → mind_in q ≡ f (shown p) (mind_in p) → map mind_in (set ps i q) ≡ set (map mind_in ps) i (f (get_or (map shown ps) i nowhere) (get_or (map mind_in ps) i empty))
-  minds_are f q m = map-set mind_in ps i q ∙ ap (set (map mind_in ps) i) (m ∙ ap₂ f (sym here_is) (sym mind_is))
-
-  pub minds_same : (q : Post) → mind_in q ≡ mind_in p → map mind_in (set ps i q) ≡ map mind_in ps
-  minds_same q m = map-set_same mind_in ps i q p (m ∙ ap mind_in e)
-
-  pub said_then : (tb : Table) (q : Post) (x : Event) (r : Response) (ms ns : List Message) → shown q ≡ lasting tb (shown p) r → mind_in q ≡ minded (shown p) (mind_in p) x r → ns ≡ ms ++ spoken tb (shown q) (mind_in q) x r →
-      ns ≡ ms ++ spoken tb (lasting tb (get_or (map shown ps) i nowhere) r) (minded (get_or (map shown ps) i nowhere) (get_or (map mind_in ps) i empty) x r) x r
-  said_then tb q x r ms ns v m n = n ∙ ap₂ (λ s z. ms ++ spoken tb s z x r) (v ∙ ap (λ s. lasting tb s r) (sym here_is)) (m ∙ ap₂ (λ s z. minded s z x r) (sym here_is) (sym mind_is))
-
--- ---- a world that lives
+-- by moves to a world that lives
+abbrev pub Goes : Table → List Post → List Message → List Post → List Message → Type 0
+Goes ub ps ms qs ns = Lives ub qs ns × Moves (length ps) ub (site_of ps ms) (site_of qs ns)
 
 module _ (tb : Table) (ps : List Post) (ms : List Message) (lives : Lives tb ps ms) where
+  abbrev n : ℕ
+  n = length ps
+
+  abbrev w : World
+  w = world_of ps ms
+
   -- a station as it is read
-  shown_is : (i : ℕ) (p : Post) → i < length ps → p ≡ get_or ps i p → shown p ≡ state (length ps) tb (world_of ps ms) i
+  pub shown_is : (i : ℕ) (p : Post) → i < n → p ≡ get_or ps i p → shown p ≡ state n tb w i
   shown_is i p b e = sym (here_is ps i p b e) ∙ lives.faithful i b
 
-  module _ (i : ℕ) (p q : Post) (b : i < length ps) (e : p ≡ get_or ps i p) where
-    -- the states follow the journals
-    follow : (es : List Record) → journal_of q ≡ journal_of p ++ es → (ub : Table) (ns : List Message) → ((k : ℕ) → state (length ps) tb (world_of ps ms) k ≡ state (length ps) ub (world_of ps ms) k) → shown q ≡ fold (apply ub) (shown p) es →
-        Reach (length ps) ub (world_of (set ps i q) ns) → Lives ub (set ps i q) ns
-    follow es j ub ns same v r =
-        record {
-          reached = subst (λ (n : ℕ). Reach n ub (world_of (set ps i q) ns)) (sym (length-set ps i q)) r;
-          faithful = λ k l. ap (λ xs. get_or xs k nowhere) (map-set shown ps i q) ∙ go k (subst (λ (n : ℕ). k < n) (length-set ps i q) l) (cases_eq k i)
-              ∙ ap (λ js. fold (apply ub) (begun (length ps) k) (get_or js k [])) (sym (journals_then ps i p b e (λ _. es) q j)) ∙ ap (λ (n : ℕ). state n ub (world_of (set ps i q) ns) k) (sym (length-set ps i q));
-        }
-      where
-        js : List Record
-        js = journal (world_of ps ms) i ++ es
+  module _ (i : ℕ) (p q : Post) (b : i < n) (e : p ≡ get_or ps i p) where
+    -- the site with these records behind its journal, all of them on its file
+    site_then : (ns : List Message) (es : List Record) → journal_of q ≡ journal_of p ++ es →
+        sync (site (record { journals = set (map journal_of ps) i (journal w i ++ es); said = ns }) (map length (map journal_of ps))) i ≡ site_of (set ps i q) ns
+    site_then ns es j =
+        let js = journal w i ++ es in
+        let is : set (map journal_of ps) i js ≡ map journal_of (set ps i q) = sym (journals_then ps i p b e (λ _. es) q j) in
+        ap (λ (l : List Record). site (record { journals = set (map journal_of ps) i js; said = ns }) (set (map length (map journal_of ps)) i (length l)))
+        (get_or-set_same (map journal_of ps) i js [] (omega (arith, length-map ps journal_of)))
+        ∙ ap (λ ks. site (record { journals = set (map journal_of ps) i js; said = ns }) ks) (sym (map-set length (map journal_of ps) i js))
+        ∙ ap (λ (l : List (List Record)). site (record { journals = l; said = ns }) (map length l)) is
 
-        go : (k : ℕ) → k < length ps → (k ≡ i) ⊎ (k ≡ i → ⊥) → get_or (set (map shown ps) i (shown q)) k nowhere ≡ fold (apply ub) (begun (length ps) k) (get_or (set (map journal_of ps) i (journal (world_of ps ms) i ++ es)) k [])
-        go k l (inl d) =
-            ap (λ (m : ℕ). get_or (set (map shown ps) i (shown q)) m nowhere) d ∙ get_or-set_same (map shown ps) i (shown q) nowhere (omega (arith, length-map ps shown))
-            ∙ v ∙ ap (λ s. fold (apply ub) s es) (shown_is i p b e ∙ same i) ∙ sym (fold-append (apply ub) (begun (length ps) i) (journal (world_of ps ms) i) es)
-            ∙ ap (fold (apply ub) (begun (length ps) i)) (sym (get_or-set_same (map journal_of ps) i js [] (omega (arith, length-map ps journal_of))))
-            ∙ ap (λ (m : ℕ). fold (apply ub) (begun (length ps) m) (get_or (set (map journal_of ps) i js) m [])) (sym d)
-        go k l (inr d) =
-            get_or-set_other (map shown ps) i k (shown q) nowhere d ∙ lives.faithful k l ∙ same k ∙ ap (fold (apply ub) (begun (length ps) k)) (sym (get_or-set_other (map journal_of ps) i k js [] d))
+    -- with a timetable that may be larger
+    module _ (ub : Table) (ext : Extends tb ub) where
+      pub grown : Reached n ub (site_of ps ms) × ((k : ℕ) → state n tb w k ≡ state n ub w k)
+      grown = grows n tb ub (site_of ps ms) ext lives.reached
 
+      -- the states follow the journals
+      module _ (es : List Record) (j : journal_of q ≡ journal_of p ++ es) (f : Filed q) (v : shown q ≡ fold (apply ub) (shown p) es) where
+        faithful_then : (ns : List Message) (k : ℕ) → k < length (set ps i q) → get_or (map shown (set ps i q)) k nowhere ≡ state (length (set ps i q)) ub (world_of (set ps i q) ns) k
+        faithful_then ns k l =
+            ap (λ xs. get_or xs k nowhere) (map-set shown ps i q) ∙ go k (subst (λ (n : ℕ). k < n) (length-set ps i q) l) (cases_eq k i)
+            ∙ ap (λ js. fold (apply ub) (begun n k) (get_or js k [])) (sym (journals_then ps i p b e (λ _. es) q j)) ∙ ap (λ (n : ℕ). state n ub (world_of (set ps i q) ns) k) (sym (length-set ps i q))
+          where
+            js : List Record
+            js = journal w i ++ es
+
+            go : (k : ℕ) → k < n → (k ≡ i) ⊎ (k ≡ i → ⊥) → get_or (set (map shown ps) i (shown q)) k nowhere ≡ fold (apply ub) (begun n k) (get_or (set (map journal_of ps) i (journal w i ++ es)) k [])
+            go k l (inl d) =
+                ap (λ (m : ℕ). get_or (set (map shown ps) i (shown q)) m nowhere) d ∙ get_or-set_same (map shown ps) i (shown q) nowhere (omega (arith, length-map ps shown))
+                ∙ v ∙ ap (λ s. fold (apply ub) s es) (shown_is i p b e ∙ grown.1 i) ∙ sym (fold-append (apply ub) (begun n i) (journal w i) es)
+                ∙ ap (fold (apply ub) (begun n i)) (sym (get_or-set_same (map journal_of ps) i js [] (omega (arith, length-map ps journal_of))))
+                ∙ ap (λ (m : ℕ). fold (apply ub) (begun n m) (get_or (set (map journal_of ps) i js) m [])) (sym d)
+            go k l (inr d) =
+                get_or-set_other (map shown ps) i k (shown q) nowhere d ∙ lives.faithful k l ∙ grown.1 k ∙ ap (fold (apply ub) (begun n k)) (sym (get_or-set_other (map journal_of ps) i k js [] d))
+
+        pub goes_then : (ns : List Message) → Moves n ub (site_of ps ms) (site_of (set ps i q) ns) → Goes ub ps ms (set ps i q) ns
+        goes_then ns m = (
+          record {
+            reached = subst (λ (n : ℕ). Reached n ub (site_of (set ps i q) ns)) (sym (length-set ps i q)) (moves_then grown.0 m);
+            faithful = faithful_then ns;
+            filed = All-set Filed ps i q f lives.filed;
+          },
+          m,
+        )
+
+    -- a step that may happen, and what is left of it in a fall
+    module _ (ub : Table) (es : List Record) where
+      pub whole_moves : (ns : List Message) → Happens n ub (site_of ps ms) i es (record { journals = set (map journal_of ps) i (journal w i ++ es); said = ns }) → journal_of q ≡ journal_of p ++ es →
+          Moves n ub (site_of ps ms) (site_of (set ps i q) ns)
+      whole_moves ns h j = subst (Moves n ub (site_of ps ms)) (site_then ns es j) h.0
+
+      pub left_moves : (v : World) (gs hs : List Record) → Happens n ub (site_of ps ms) i es v → es ≡ gs ++ hs → journal_of q ≡ journal_of p ++ gs → Moves n ub (site_of ps ms) (site_of (set ps i q) ms)
+      left_moves v gs hs h g j = subst (Moves n ub (site_of ps ms)) (site_then ms gs j) (h.1 gs hs g)
+
+  module _ (i : ℕ) (p : Post) (b : i < n) (e : p ≡ get_or ps i p) where
     -- an event
-    module _ (r : Response) (x : Event) (ns : List Message) (j : journal_of q ≡ journal_of p ++ written (shown p) r) (v : shown q ≡ lasting tb (shown p) r) (m : mind_in q ≡ minded (shown p) (mind_in p) x r)
-        (n : ns ≡ ms ++ spoken tb (shown q) (mind_in q) x r) (h : HeedsAll ms i x) (a : for_memory r ≡ false → r ≡ resolved tb (shown p) (mind_in p) x) where
-      pub happened_steps : Steps (length ps) tb (world_of ps ms) (world_of (set ps i q) ns)
-      happened_steps =
-          subst (Steps (length ps) tb (world_of ps ms))
-          (ap₂ (λ js l. record { journals = js; said = l })
-          (sym (journals_then ps i p b e (λ _. written (shown p) r) q j ∙ ap (λ s. set (map journal_of ps) i (get_or (map journal_of ps) i [] ++ written s r)) (shown_is i p b e)))
-          (sym (n ∙ ap₂ (λ s z. ms ++ spoken tb s z x r) (v ∙ ap (λ s. lasting tb s r) (shown_is i p b e)) (m ∙ ap (λ s. minded s (mind_in p) x r) (shown_is i p b e)))))
-          (happens_any (length ps) tb (world_of ps ms) lives.reached i b (mind_in p) x r h (λ f. a f ∙ ap (λ s. resolved tb s (mind_in p) x) (shown_is i p b e)))
-
-      pub happened_lives : Lives tb (set ps i q) ns
-      happened_lives = follow (written (shown p) r) j tb ns (λ k. refl) v (steps_then lives.reached happened_steps)
+    pub event_happens : (x : Event) (r : Response) → HeedsAll ms i x → (for_memory r ≡ false → r ≡ resolved tb (shown p) (mind_in p) x) →
+        Happens n tb (site_of ps ms) i (written (shown p) r) (record { journals = set (map journal_of ps) i (journal w i ++ written (shown p) r); said = ms ++ spoken tb (lasting tb (shown p) r) (minded (shown p) (mind_in p) x r) x r })
+    event_happens x r h a =
+        subst (λ s. Happens n tb (site_of ps ms) i (written s r) (record { journals = set (map journal_of ps) i (journal w i ++ written s r); said = ms ++ spoken tb (lasting tb s r) (minded s (mind_in p) x r) x r }))
+        (sym (shown_is i p b e))
+        (happens_any n tb (site_of ps ms) lives.reached i b (mind_in p) x r h (λ f. a f ∙ ap (λ s. resolved tb s (mind_in p) x) (shown_is i p b e)))
 
     -- an opening
-    module _ (o : Answer) (j : journal_of q ≡ journal_of p ++ records o) where
-      extends : (r : Row) (o : Answer) → (for_memory o ≡ false → o ≡ decided_open tb (shown p) r) → Extends tb (listing tb r o)
-      extends r (Ok (Done z)) a = put_extends tb r (opens_admitted tb (shown p) r z (sym (a refl)))
-      extends r (Ok (Gave to n y z)) a = λ k q f. f
-      extends r (Ok Nothing) a = λ k q f. f
-      extends r (Ok (Passed z)) a = λ k q f. f
-      extends r (Err z) a = λ k q f. f
+    pub opening_happens : (r : Row) (o : Answer) → (for_memory o ≡ false → o ≡ decided_open tb (shown p) r) →
+        Happens n (listing tb r o) (site_of ps ms) i (records o) (record { journals = set (map journal_of ps) i (journal w i ++ records o); said = ms })
+    opening_happens r o a = opening n tb (site_of ps ms) lives.reached i r b o (λ f. a f ∙ ap (λ s. decided_open tb s r) (shown_is i p b e))
 
-      pub opened_steps : (r : Row) (ub : Table) → ub ≡ listing tb r o → (for_memory o ≡ false → o ≡ decided_open tb (shown p) r) → Steps (length ps) ub (world_of ps ms) (world_of (set ps i q) ms)
-      opened_steps r ub u a =
-          subst (λ tb. Steps (length ps) tb (world_of ps ms) (world_of (set ps i q) ms)) (sym u)
-          (subst (Steps (length ps) (listing tb r o) (world_of ps ms)) (ap (λ js. record { journals = js; said = ms }) (sym (journals_then ps i p b e (λ _. records o) q j)))
-          (opening (length ps) tb (world_of ps ms) lives.reached i r b o (λ f. a f ∙ ap (λ s. decided_open tb s r) (shown_is i p b e))))
-
-      pub opened_lives : (r : Row) (ub : Table) → ub ≡ listing tb r o → shown q ≡ after ub (shown p) o → (for_memory o ≡ false → o ≡ decided_open tb (shown p) r) → Lives ub (set ps i q) ms
-      opened_lives r ub u v a =
-          let g = grows (length ps) tb ub (world_of ps ms) (subst (Extends tb) (sym u) (extends r o a)) lives.reached in
-          follow (records o) j ub ms g.1 v (steps_then g.0 (opened_steps r ub u a))
+    pub opening_extends : (r : Row) (o : Answer) → (for_memory o ≡ false → o ≡ decided_open tb (shown p) r) → Extends tb (listing tb r o)
+    opening_extends r (Ok (Done z)) a = put_extends tb r (opens_admitted tb (shown p) r z (sym (a refl)))
+    opening_extends r (Ok (Gave to n y z)) a = λ k q f. f
+    opening_extends r (Ok Nothing) a = λ k q f. f
+    opening_extends r (Ok (Passed z)) a = λ k q f. f
+    opening_extends r (Err z) a = λ k q f. f
 
 -- ---- what was said can be told
 
@@ -168,38 +163,7 @@ pub one_place : (tb : Table) (ps : List Post) (ms : List Message) → Lives tb p
     ((k : ℕ) → k < length ps → was_closed (get_or (map shown ps) k nowhere) t ≡ false) → (s u : ℕ) → s < r.seats → u < stretches r → length (places (length ps) t s u (λ k. get_or (map shown ps) k nowhere)) ≡ 1
 one_place tb ps ms lives t r e o c s u ls lu =
     ap length (places_cong (length ps) t s u (λ k. get_or (map shown ps) k nowhere) (state (length ps) tb (world_of ps ms)) lives.faithful)
-    ∙ once (length ps) tb (world_of ps ms) lives.reached t r e (ap (λ x. is_open x t) (sym (lives.faithful r.first.0 first)) ∙ o) (λ k l. ap (λ x. was_closed x t) (sym (lives.faithful k l)) ∙ c k l) s u ls lu
+    ∙ once (length ps) tb (world_of ps ms) (map length (map journal_of ps), lives.reached) t r e (ap (λ x. is_open x t) (sym (lives.faithful r.first.0 first)) ∙ o) (λ k l. ap (λ x. was_closed x t) (sym (lives.faithful k l)) ∙ c k l) s u ls lu
   where
     first : r.first.0 < length ps
     first = ⊎_elim (λ l. l) (λ l. absurd (false≢true (ap (λ x. is_open x t) (sym (get_or_past (map shown ps) r.first.0 nowhere (omega (arith, length-map ps shown)))) ∙ o))) (cases_lt r.first.0 (length ps))
-
--- ---- at first
-
-pub record Begun (n : ℕ) (ps : List Post) : Type 0 where
-  pub journals : map journal_of ps ≡ replicate (length ps) []
-  pub states : (k : ℕ) → k < length ps → get_or (map shown ps) k nowhere ≡ begun n k
-  pub minds : map mind_in ps ≡ replicate (length ps) empty
-
-begun_push : (n : ℕ) (ps : List Post) (p : Post) → Begun n ps → shown p ≡ begun n (length ps) → journal_of p ≡ [] → mind_in p ≡ empty → Begun n (ps ++ p ∷ [])
-begun_push n ps p o e j m =
-    record {
-      journals = map_push journal_of ps p ∙ ap₂ (λ xs x. xs ++ x ∷ []) o.journals j ∙ replicate_more (length ps) [] ∙ ap (λ (m : ℕ). replicate m []) (sym (length-append ps (p ∷ [])));
-      states = λ k l. ap (λ xs. get_or xs k nowhere) (map_push shown ps p) ∙ go k (cases_lt k (length ps)) (omega (arith, l, length-append ps (p ∷ [])));
-      minds = map_push mind_in ps p ∙ ap₂ (λ xs x. xs ++ x ∷ []) o.minds m ∙ replicate_more (length ps) empty ∙ ap (λ (k : ℕ). replicate k empty) (sym (length-append ps (p ∷ [])));
-    }
-  where
-    go : (k : ℕ) → (k < length ps) ⊎ (length ps ≤ k) → k ≤ length ps → get_or (map shown ps ++ shown p ∷ []) k nowhere ≡ begun n k
-    go k (inl l) h = get_or-append (map shown ps) (shown p ∷ []) nowhere k (omega (arith, length-map ps shown)) ∙ o.states k l
-    go k (inr l) h =
-        let d : k ≡ length ps = omega arith in
-        get_or_at (map shown ps) (shown p) [] nowhere k (omega (arith, length-map ps shown)) ∙ e ∙ ap (begun n) (sym d)
-
-pub begun_next : (n k : ℕ) (ps qs : List Post) (p : Post) → (length ps ≡ k) × Begun n ps → qs ≡ ps ++ p ∷ [] → shown p ≡ begun n k → journal_of p ≡ [] → mind_in p ≡ empty → (length qs ≡ k + 1) × Begun n qs
-begun_next n k ps qs p (c, o) e s j m = (omega (arith, ap length e, length-append ps (p ∷ []), c), subst (Begun n) (sym e) (begun_push n ps p o (s ∙ ap (begun n) (sym c)) j m))
-
-pub begun_lives : (tb : Table) (n : ℕ) (ps : List Post) → length ps ≡ n → Begun n ps → Lives tb ps []
-begun_lives tb n ps e o =
-    record {
-      reached = subst (λ js. Reach (length ps) tb (record { journals = js; said = [] })) (sym o.journals) none;
-      faithful = λ k l. o.states k l ∙ ap (λ (m : ℕ). begun m k) (sym e) ∙ sym (ap (λ js. fold (apply tb) (begun (length ps) k) (get_or js k [])) o.journals ∙ ap (fold (apply tb) (begun (length ps) k)) (slice_index_same {A = List Record} [] (length ps) k));
-    }

@@ -1,4 +1,6 @@
-pub mod Requests
 pub mod Lives
 pub mod Seen
+pub mod Restarts
+pub mod Turns
+pub mod Rises
 pub mod Found

@@ -1,13 +1,11 @@
-// A station with what it keeps in mind, and its journal.
-use asking::desk::Desk;
-use state::record::Record;
-use state::station::Station;
+// A station at work with its file in memory, and when its power is to be cut: when its next step has so many bytes on the file.
+use recovery::machine::Machine;
 
 pub mod calls;
 
 #[derive(Drop)]
 pub struct Post {
-    pub station: Station,
-    pub desk: Desk,
-    pub journal: Vec<Record>,
+    pub machine: Machine,
+    pub file: Vec<u8>,
+    pub cut: Option<u32>,
 }

@@ -7,6 +7,7 @@ use crate::post::Post;
 use giving::message::Message;
 use timetable::timetable::Timetable;
 
+pub mod falls;
 pub mod moves;
 pub mod places;
 pub mod reads;

@@ -1,20 +1,18 @@
 // The world of a script, and the line of messages between its stations.
-ghost use Rattle.std.specs.Prelude.{◌≡◌, min};
-
-use crate::answer::{Answer, EMPTY, NO_COMMAND};
 use crate::map::write_train;
+use crate::shown::{EMPTY, Shown};
 use asking::event::Reply;
-use giving::ids::{StationId, Ticket};
-use giving::refusal::Refusal;
+use counter::answer::NO_COMMAND;
+use counter::task::Task;
+use giving::ids::StationId;
 use ledger::input::Outcome;
-use pieces::demand::Demand;
-use pieces::names::{Stop, Train};
+use pieces::names::Train;
 use rehearsal::queue::Queue;
-use rehearsal::request::Request;
+use rehearsal::turn::Turn;
 use rehearsal::world::World;
-use script::command::{Command, Deed, Opening, Wish};
-use script::show::{Coming, Said};
-use script::values::{byte, row, station_id};
+use script::command::{Command, Deed, Opening};
+use script::show::{Coming, Lost, Said};
+use script::values::{row, station_id};
 use std::alloc::{AllocError, Global};
 use std::collections::BTreeSet;
 
@@ -26,15 +24,11 @@ pub struct Game {
     trains: BTreeSet<Train>,
 }
 
-// The trip that so many people want, as a line says it.
-fn demand(wish: Wish) -> Demand
-    ensures { (result.train.0 ≡ wish.train) × (result.from.0 ≡ min wish.from 255) × (result.to.0 ≡ min wish.to 255) × (result.people ≡ min wish.people 255) }
-{
-    Demand {
-        train: Train(wish.train),
-        from: Stop(byte(wish.from)),
-        to: Stop(byte(wish.to)),
-        people: byte(wish.people),
+// What came of an opening, as an answer.
+fn opened(turn: Turn<Outcome>) -> Turn<Reply> {
+    match turn {
+        Turn::Came(came) => Turn::Came(came.map(Reply::Came)),
+        Turn::Fell => Turn::Fell,
     }
 }
 
@@ -55,13 +49,15 @@ impl Game {
         page: &mut String,
     ) -> Result<(), AllocError> {
         match command {
-            Command::Station { who, deed } => self.station(who, deed, page),
-            Command::Pass => self.pass(page),
-            Command::PassMany { count } => self.pass_many(count, page),
-            Command::Twice => self.twice(page),
+            Command::Station { who, deed } => self.station(heap, who, deed, page),
+            Command::Pass => self.pass(heap, page),
+            Command::PassMany { count } => self.pass_many(heap, count, page),
+            Command::Twice => self.twice(heap, page),
             Command::Lose => self.lose(page),
             Command::Late => self.late(page),
             Command::Where => self.map(heap, page),
+            Command::Cut { who } => self.cut(heap, who, page),
+            Command::CutNext { who, bytes } => self.cut_next(who, bytes, page),
             Command::Stations { .. } => page.push_str(NO_COMMAND),
         }
     }
@@ -84,85 +80,128 @@ impl Game {
     }
 
     // A station does something: what it says is printed, then its answer.
-    fn station(&mut self, number: u32, deed: Deed, page: &mut String) -> Result<(), AllocError> {
+    fn station(
+        &mut self,
+        heap: Global,
+        number: u32,
+        deed: Deed,
+        page: &mut String,
+    ) -> Result<(), AllocError> {
+        let who = station_id(number);
         let before = self.world.said().len();
-        let Some(answer) = self.perform(station_id(number), deed)? else {
+        let turn = match Task::from(deed) {
+            Task::Lost(other) => return self.lost(heap, who, other, page),
+            Task::Open(opening) => self.open(heap, who, opening)?,
+            Task::Request(request) => self.world.ask(heap, who, request)?,
+        };
+        let Some(turn) = turn else {
             return page.push_str(NO_COMMAND);
         };
         self.hear(before, page)?;
-        writeln!(page, "{number} {answer}")
-    }
-
-    // What a station answers to what it is told; none where it is not there.
-    fn perform(&mut self, who: StationId, deed: Deed) -> Result<Option<Answer>, AllocError> {
-        let request = match deed {
-            Deed::Open(opening) => return self.open(who, opening),
-            Deed::Close { train } => Request::Close(Train(train)),
-            Deed::Sell(wish) => Request::Sell(demand(wish)),
-            Deed::Undo { ticket } => Request::Undo(Ticket(ticket)),
-            Deed::Give { to, wish } => Request::Give(station_id(to), demand(wish)),
-            Deed::Ask(wish) => Request::Ask(demand(wish)),
-            Deed::Tick => Request::Tick,
-        };
-        Ok(self.world.ask(who, request).map(Answer))
+        writeln!(page, "{who} {}", Shown(turn))
     }
 
     // A train is opened, and all stations have its row.
-    fn open(&mut self, who: StationId, opening: Opening) -> Result<Option<Answer>, AllocError> {
-        if self.world.station(who).is_none() {
-            return Ok(None);
-        }
-        let Some(row) = row(opening, self.world.stations()) else {
-            return Ok(Some(Answer(Err(Refusal::Malformed))));
+    fn open(
+        &mut self,
+        heap: Global,
+        who: StationId,
+        opening: Opening,
+    ) -> Result<Option<Turn<Reply>>, AllocError> {
+        let Some(row) = row(opening, u16::from(self.world.stations())) else {
+            return Ok(self.world.refuse(heap, who)?.map(opened));
         };
-        let came = self.world.open(who, row);
-        if let Some(Ok(Outcome::Done(_))) = came {
+        let turn = self.world.open(heap, who, row)?;
+        if self.world.row(row.train).is_some() {
             self.trains.insert(row.train)?;
         }
-        Ok(came.map(|came| Answer(came.map(Reply::Came))))
+        Ok(turn.map(opened))
+    }
+
+    // A station lists the trains of another one, which lost its file.
+    fn lost(
+        &mut self,
+        heap: Global,
+        who: StationId,
+        other: StationId,
+        page: &mut String,
+    ) -> Result<(), AllocError> {
+        match self.world.lost(heap, who, other)? {
+            None => page.push_str(NO_COMMAND),
+            Some(Turn::Fell) => writeln!(page, "{who} cut"),
+            Some(Turn::Came(Err(refusal))) => writeln!(page, "{who} no {refusal}"),
+            Some(Turn::Came(Ok(trains))) => {
+                let trains = &trains;
+                writeln!(page, "{who} {}", Lost { other, trains })
+            }
+        }
+    }
+
+    // The power of a station is cut now, and comes back.
+    fn cut(&mut self, heap: Global, number: u32, page: &mut String) -> Result<(), AllocError> {
+        let who = station_id(number);
+        if self.world.cut(heap, who)? {
+            writeln!(page, "{who} cut")
+        } else {
+            page.push_str(NO_COMMAND)
+        }
+    }
+
+    // The power of a station is cut when its next step has so many bytes on its file.
+    fn cut_next(&mut self, number: u32, bytes: u32, page: &mut String) -> Result<(), AllocError> {
+        if self.world.cut_next(station_id(number), bytes) {
+            Ok(())
+        } else {
+            page.push_str(NO_COMMAND)
+        }
     }
 
     // A message is delivered: it is printed, then what is said of it, then what it came to.
-    fn deliver(&mut self, at: usize, page: &mut String) -> Result<(), AllocError> {
+    fn deliver(&mut self, heap: Global, at: usize, page: &mut String) -> Result<(), AllocError> {
         let before = self.world.said().len();
-        let Some(delivered) = self.world.deliver(at) else {
+        let Some(delivered) = self.world.deliver(heap, at)? else {
             return page.push_str(NO_COMMAND);
         };
-        let (message, reply) = delivered;
+        let (message, turn) = delivered;
         writeln!(page, "{}", Coming(message))?;
         self.hear(before, page)?;
-        writeln!(page, "{} {}", message.to, Answer(reply))
+        writeln!(page, "{} {}", message.to, Shown(turn))
     }
 
     // The first message in the queue is delivered, if there is one.
-    fn deliver_first(&mut self, first: Option<usize>, page: &mut String) -> Result<(), AllocError> {
+    fn deliver_first(
+        &mut self,
+        heap: Global,
+        first: Option<usize>,
+        page: &mut String,
+    ) -> Result<(), AllocError> {
         match first {
-            Some(at) => self.deliver(at, page),
+            Some(at) => self.deliver(heap, at, page),
             None => page.push_str(EMPTY),
         }
     }
 
     // The first message is delivered.
-    fn pass(&mut self, page: &mut String) -> Result<(), AllocError> {
+    fn pass(&mut self, heap: Global, page: &mut String) -> Result<(), AllocError> {
         let first = self.queue.take_first();
-        self.deliver_first(first, page)
+        self.deliver_first(heap, first, page)
     }
 
     // So many messages are delivered, or all that there are.
-    fn pass_many(&mut self, count: u32, page: &mut String) -> Result<(), AllocError> {
+    fn pass_many(&mut self, heap: Global, count: u32, page: &mut String) -> Result<(), AllocError> {
         for _ in 0..count {
             let Some(at) = self.queue.take_first() else {
                 break;
             };
-            self.deliver(at, page)?;
+            self.deliver(heap, at, page)?;
         }
         Ok(())
     }
 
     // The first message is delivered, and stays first.
-    fn twice(&mut self, page: &mut String) -> Result<(), AllocError> {
+    fn twice(&mut self, heap: Global, page: &mut String) -> Result<(), AllocError> {
         let first = self.queue.first();
-        self.deliver_first(first, page)
+        self.deliver_first(heap, first, page)
     }
 
     // The first message is lost.

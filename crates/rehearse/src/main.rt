@@ -1,10 +1,10 @@
 // Plays a script of up to eight stations in memory, and prints what they say and where each stretch of each seat is.
 #![tactic(auto)]
 
-mod answer;
 mod game;
 mod map;
 mod player;
+mod shown;
 
 use player::Player;
 use std::io::{BufRead, BufReader, BufWriter, Write};

@@ -1,6 +1,6 @@
 // A script, line by line.
-use crate::answer::NO_COMMAND;
 use crate::game::Game;
+use counter::answer::NO_COMMAND;
 use script::command::{Command, read};
 use std::alloc::{AllocError, Global};
 use std::str::from_utf8;
@@ -9,14 +9,6 @@ use std::str::from_utf8;
 pub struct Player {
     // begun by the line `stations N`
     game: Option<Game>,
-}
-
-// The command that a line is; none where it is no text, or no command.
-fn command_of(heap: Global, line: &[u8]) -> Result<Option<Command>, AllocError> {
-    match from_utf8(line) {
-        Ok(text) => read(heap, text),
-        Err(_) => Ok(None),
-    }
 }
 
 impl Player {
@@ -31,7 +23,9 @@ impl Player {
         if line.is_empty() || line.starts_with(b"#") {
             return Ok(page);
         }
-        match (command_of(heap, line)?, &mut self.game) {
+        // what is no text is no command, as an empty line is none
+        let text = from_utf8(line).unwrap_or_default();
+        match (read(heap, text)?, &mut self.game) {
             (Some(command), Some(game)) => game.play(heap, command, &mut page)?,
             (Some(Command::Stations { count: n @ 1..=8 }), None) => {
                 self.game = Some(Game::new(heap, n as u8)?);

@@ -1,9 +1,8 @@
 -- What a line says, by its first word.
-use Rattle.std.proofs.Common.{◌≡◌, ℕ, ◌≤◌, List, [], ◌∷◌, length, refl, arith, option_map, Option, Some, None}
+use Rattle.std.proofs.Common.{◌≡◌, ℕ, ◌≤◌, List, [], ◌∷◌, length, refl, arith, Option, Some, None}
 use Rattle.std.specs.Option.{option_and_then}
-use Rattle.script.specs.Lines.{deed_of, line_command_of, station_command_of, words_command, command_of}
+use Rattle.script.specs.Lines.{deed_of, words_deed, line_command_of, station_command_of, words_command, command_of}
 use Rattle.script.specs.Words.{words_of, number_of, numbers_of}
-use Rattle.script.specs.declared.command.Command.TheVariants.{Station}
 
 command-words : (line : List ℕ) (ws : List (List ℕ)) → length line ≤ 4096 → words_of line ≡ ws → command_of line ≡ words_command ws
 command-words line ws short e = rw e (grind arith)
@@ -17,8 +16,8 @@ command-line line w ws o short e none h = rw (command-words line (w ∷ ws) shor
 pub command-station : (line w : List ℕ) (ws : List (List ℕ)) (who : ℕ) → length line ≤ 4096 → words_of line ≡ w ∷ ws → number_of w ≡ Some who → station_command_of who ws ≡ command_of line
 command-station line w ws who short e some = rw (command-words line (w ∷ ws) short e, some) refl
 
-pub station-none : (who : ℕ) (ws : List (List ℕ)) → ws ≡ [] → None ≡ station_command_of who ws
-station-none who ws e = rw e refl
+pub deed-none : (ws : List (List ℕ)) → ws ≡ [] → None ≡ words_deed ws
+deed-none ws e = rw e refl
 
-pub station-deed : (who : ℕ) (w : List ℕ) (ws vs : List (List ℕ)) (o : Option (List ℕ)) → ws ≡ w ∷ vs → o ≡ numbers_of vs → option_map (λ deed. Station who deed) (option_and_then (λ ns. deed_of w ns) o) ≡ station_command_of who ws
-station-deed who w ws vs o e h = rw (e, h) refl
+pub deed-words : (w : List ℕ) (ws vs : List (List ℕ)) (o : Option (List ℕ)) → ws ≡ w ∷ vs → o ≡ numbers_of vs → option_and_then (λ ns. deed_of w ns) o ≡ words_deed ws
+deed-words w ws vs o e h = rw (e, h) refl

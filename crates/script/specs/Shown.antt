@@ -1,9 +1,12 @@
--- What is printed of messages.
+-- What is printed of messages, and of the trains of a lost station.
 use Rattle.std.specs.Prelude.{ℕ, ◌-◌, ◌^◌, false, List, [], ◌++◌, codes}
 use Rattle.std.specs.Fmt.{decimal, digits, format_spec, padded_integral}
+use Rattle.std.specs.List.{flat_map}
+use Rattle.giving.specs.declared.ids.StationId.{StationId}
 use Rattle.giving.specs.declared.message.Body.{Body}
 use Rattle.giving.specs.declared.message.Body.TheVariants.{Given, Taken, Asked, Answered, Told}
 use Rattle.giving.specs.declared.message.Message.{Message}
+use Rattle.pieces.specs.declared.names.Train.{Train}
 
 -- a number in so many hexadecimal digits, with zeros in front
 abbrev pub hex_of : ℕ → ℕ → List ℕ
@@ -24,3 +27,11 @@ said_text m = decimal m.from.0 ++ (codes " out " ++ (decimal m.to.0 ++ (codes " 
 -- a message as the station that it comes to prints it
 abbrev pub coming_text : Message → List ℕ
 coming_text m = decimal m.to.0 ++ (codes " < " ++ (decimal m.from.0 ++ (codes " " ++ body_text m.body)))
+
+-- a train of a list
+abbrev pub train_text : Train → List ℕ
+train_text t = codes " " ++ decimal t.0
+
+-- a station that lost its file, and its trains
+abbrev pub lost_text : StationId → List Train → List ℕ
+lost_text other trains = codes "lost " ++ (decimal other.0 ++ flat_map train_text trains)

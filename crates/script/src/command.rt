@@ -1,5 +1,5 @@
 // The lines of a script.
-ghost use Rattle.script.specs.Lines.{deed_of, line_command_of, station_command_of, command_of};
+ghost use Rattle.script.specs.Lines.{deed_of, deed_line, words_deed, line_command_of, row_line, station_command_of, command_of};
 ghost use Rattle.script.specs.Words.{words_left, number_of, numbers_of};
 ghost use Rattle.std.specs.Prelude.{◌≡◌, option_map, IfOk};
 
@@ -35,6 +35,8 @@ pub enum Deed {
     Give { to: u32, wish: Wish },
     // for pieces
     Ask(Wish),
+    // to list the trains of a station that lost its file
+    Lost { other: u32 },
     Tick,
 }
 
@@ -47,6 +49,10 @@ pub enum Command {
     Lose,
     Twice,
     Late,
+    // the power of a station is cut now
+    Cut { who: u32 },
+    // or when so many bytes of its next step are on its file
+    CutNext { who: u32, bytes: u32 },
     Where,
 }
 
@@ -54,7 +60,7 @@ pub enum Command {
 const LONGEST: usize = 4096;
 
 // The number that a word is, in decimal, below 2^32. A sign is no digit.
-fn number(word: &str) -> Option<u32>
+pub fn number(word: &str) -> Option<u32>
     ensures { result ≡ number_of word.now }
 {
     if word.starts_with('+') {
@@ -85,6 +91,7 @@ fn station_deed(word: &str, args: &[u32]) -> Option<Deed>
         ("tick", []) => Some(Deed::Tick),
         ("close", &[train]) => Some(Deed::Close { train }),
         ("undo", &[ticket]) => Some(Deed::Undo { ticket }),
+        ("lost", &[other]) => Some(Deed::Lost { other }),
         ("sell", &[train, from, to, people]) => Some(Deed::Sell(Wish {
             train,
             from,
@@ -116,7 +123,7 @@ fn station_deed(word: &str, args: &[u32]) -> Option<Deed>
     }
 }
 
-// A command on the lines between the stations.
+// A command on the lines between the stations, or on their power.
 fn line_command(word: &str, args: &[u32]) -> Option<Command>
     ensures { result ≡ line_command_of word.now args.now }
 {
@@ -128,17 +135,15 @@ fn line_command(word: &str, args: &[u32]) -> Option<Command>
         ("late", []) => Some(Command::Late),
         ("where", []) => Some(Command::Where),
         ("stations", &[count]) => Some(Command::Stations { count }),
+        ("cut", &[who]) => Some(Command::Cut { who }),
+        ("cut", &[who, bytes]) => Some(Command::CutNext { who, bytes }),
         _ => None,
     }
 }
 
-// A command to a station, by the words behind its number.
-fn station_command(
-    heap: Global,
-    who: u32,
-    mut words: SplitAsciiWhitespace<'_>,
-) -> Result<Option<Command>, AllocError>
-    ensures { IfOk result (λ r. r ≡ station_command_of who (words_left words.entry)) }
+// What words ask of a station.
+fn words_deed(heap: Global, mut words: SplitAsciiWhitespace<'_>) -> Result<Option<Deed>, AllocError>
+    ensures { IfOk result (λ r. r ≡ words_deed (words_left words.entry)) }
 {
     let Some(word) = words.next() else {
         return Ok(None);
@@ -146,7 +151,48 @@ fn station_command(
     let Some(args) = numbers(heap, words)? else {
         return Ok(None);
     };
-    Ok(station_deed(word, &args).map(|deed| Command::Station { who, deed }))
+    Ok(station_deed(word, &args))
+}
+
+// A command to a station, by the words behind its number.
+fn station_command(
+    heap: Global,
+    who: u32,
+    words: SplitAsciiWhitespace<'_>,
+) -> Result<Option<Command>, AllocError>
+    ensures { IfOk result (λ r. r ≡ station_command_of who (words_left words.entry)) }
+{
+    let deed = words_deed(heap, words)?;
+    Ok(deed.map(|deed| Command::Station { who, deed }))
+}
+
+// Reads a line that is typed at a station; none where it asks nothing.
+pub fn read_deed(heap: Global, line: &str) -> Result<Option<Deed>, AllocError>
+    ensures { IfOk result (λ r. r ≡ deed_line line.now) }
+{
+    if line.len() > LONGEST {
+        return Ok(None);
+    }
+    words_deed(heap, line.split_ascii_whitespace())
+}
+
+// Reads a line of the timetable; none where it is no row.
+pub fn read_row(heap: Global, line: &str) -> Result<Option<Opening>, AllocError>
+    ensures { IfOk result (λ r. r ≡ row_line line.now) }
+{
+    if line.len() > LONGEST {
+        return Ok(None);
+    }
+    let found = numbers(heap, line.split_ascii_whitespace())?;
+    let Some(&[train, seats, stops, first]) = found.as_deref() else {
+        return Ok(None);
+    };
+    Ok(Some(Opening {
+        train,
+        seats,
+        stops,
+        first,
+    }))
 }
 
 // Reads a line; none where it is no command.

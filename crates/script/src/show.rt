@@ -1,8 +1,10 @@
-// What is printed of messages.
-ghost use Rattle.script.specs.Shown.{body_text, said_text, coming_text};
+// What is printed of messages, and of the trains of a lost station.
+ghost use Rattle.script.specs.Shown.{body_text, said_text, coming_text, lost_text};
 ghost use Rattle.std.specs.Prelude.{Some};
 
+use giving::ids::StationId;
 use giving::message::{Body, Message};
+use pieces::names::Train;
 use std::fmt;
 
 // A message as bytes, in hexadecimal: its kind, then its numbers, the high byte first.
@@ -56,5 +58,24 @@ impl fmt::Display for Coming {
     fn fmt<W: fmt::Write>(&self, f: &mut fmt::Formatter<W>) -> fmt::Result {
         let Message { from, to, body } = self.0;
         write!(f, "{to} < {from} {}", Hex(body))
+    }
+}
+
+// A station that lost its file, and the trains that another one lists of it.
+#[derive(Clone, Copy, Drop)]
+pub struct Lost<'a> {
+    pub other: StationId,
+    pub trains: &'a [Train],
+}
+
+impl<'a> fmt::Display for Lost<'a> {
+    ghost output = { λ l. Some (lost_text l.other l.trains.now) };
+
+    fn fmt<W: fmt::Write>(&self, f: &mut fmt::Formatter<W>) -> fmt::Result {
+        write!(f, "lost {}", self.other)?;
+        for train in self.trains {
+            write!(f, " {train}")?;
+        }
+        Ok(())
     }
 }

@@ -1,5 +1,5 @@
 // What the numbers of a line stand for.
-ghost use Rattle.std.specs.Prelude.{◌≡◌, ◌<◌, min, true, MatchOption};
+ghost use Rattle.std.specs.Prelude.{◌≡◌, ◌<◌, ◌≤◌, min, true, MatchOption};
 ghost use Rattle.timetable.specs.Additions.{rowable};
 
 use crate::command::Opening;
@@ -22,13 +22,14 @@ pub fn station_id(number: u32) -> StationId
 }
 
 // The row of a train that is to be opened among so many stations, where it can be one.
-pub fn row(opening: Opening, stations: u8) -> Option<Row>
+pub fn row(opening: Opening, stations: u16) -> Option<Row>
+    requires { stations ≤ 256 }
     ensures { MatchOption result ((rowable opening.seats opening.stops ≡ true) × (opening.first < stations) → ⊥) (λ w. (w.train.0 ≡ opening.train) × (w.seats ≡ opening.seats) × (w.stops ≡ opening.stops) × (w.first.0 ≡ opening.first) × (opening.first < stations)) }
 {
     let seats = u16::try_from(opening.seats).ok()?;
     let stops = u8::try_from(opening.stops).ok()?;
     let first = u8::try_from(opening.first).ok()?;
-    if first >= stations {
+    if stations <= u16::from(first) {
         return None;
     }
     Row::new(Train(opening.train), seats, stops, StationId(first))

@@ -1,10 +1,10 @@
 -- The change that each record makes, and where a record may stand.
-use Rattle.std.specs.Prelude.{ℕ, suc, ◌+◌, ◌-◌, Bool, true, false, cond, not, ◌&&◌, ◌||◌, List, [], ◌∷◌, ◌++◌, map, length, drop, is_some, Some, None, Option, ◌==◌, nat_le, nat_lt, slice_set}
+use Rattle.std.specs.Prelude.{ℕ, suc, ◌+◌, ◌-◌, Bool, true, false, cond, not, ◌&&◌, ◌||◌, List, [], ◌∷◌, ◌++◌, map, length, drop, is_some, Some, None, Option, ◌==◌, nat_le, nat_lt, slice_index_or, slice_set}
 use Rattle.choosing.specs.Parties.{below, seats_of, some}
 use Rattle.choosing.specs.declared.party.Party.{Party}
 use Rattle.giving.specs.Channels.{Chan, gave, declined, took, heard_to, line, news, numbered, roomy, other, unanswered}
 use Rattle.giving.specs.declared.ids.StationId.{StationId}
-use Rattle.state.specs.States.{State, place_of, place, is_open, was_closed, known, openable, holds_piece, sold, tickets_left, asks_left, ticket_of}
+use Rattle.state.specs.States.{State, nobody, place_of, place, is_open, was_closed, known, openable, holds_piece, sold, tickets_left, asks_left, ticket_of}
 use Rattle.state.specs.declared.record.Record.{Record}
 use Rattle.state.specs.declared.record.Record.TheVariants.{Opened, Closed, Sold, Undone, Given, Taken, Heard, Asked, Declined}
 use Rattle.pieces.specs.Memory.{Changing, altered, altered_all, covered_all, seated, placed}
@@ -28,6 +28,10 @@ with_line s k c = record s { channels = slice_set s.channels k.0 c }
 -- a ticket of a train was sold
 abbrev pub with_sold : State → Train → State
 with_sold s t = record s { ever_sold = slice_set s.ever_sold (place s t) true }
+
+-- a piece of a train was given to a station
+abbrev pub with_gave : State → Train → StationId → State
+with_gave s t k = record s { ever_gave = slice_set s.ever_gave (place s t) (slice_set (slice_index_or s.ever_gave (place s t) []) k.0 true) }
 
 abbrev pub with_asked : State → ℕ → State
 with_asked s a = record s { asked = a }
@@ -72,6 +76,7 @@ opened (Some r) t s =
       slots = slice_set s.slots (place_of s.slots None) (Some t);
       words = placed s.words (place_of s.slots None) (seated r.seats (opening s.me r));
       ever_sold = slice_set s.ever_sold (place_of s.slots None) false;
+      ever_gave = slice_set s.ever_gave (place_of s.slots None) nobody;
     }
 
 -- the tickets of a train are forgotten
@@ -112,7 +117,7 @@ apply tb s (Opened t) = opened (tb t.0) t s
 apply tb s (Closed t) = closing t s
 apply tb s (Sold n p) = with_sold (with_tickets (taken_all s p) (s.tickets ++ Some p ∷ [])) p.train
 apply tb s (Undone n) = with_tickets (returned (ticket_of s n.0) s) (slice_set s.tickets (n.0 - 1 - s.dropped) None)
-apply tb s (Given to n a p) = with_line (taken_out s p) to (gave (line s.channels to.0) a.0 p)
+apply tb s (Given to n a p) = with_gave (with_line (taken_out s p) to (gave (line s.channels to.0) a.0 p)) p.train to
 apply tb s (Taken from n p) = with_line (received tb s p) from (took (line s.channels from.0))
 apply tb s (Heard from n) = with_line s from (heard_to (line s.channels from.0) n.0)
 apply tb s (Asked a) = with_asked s a.0

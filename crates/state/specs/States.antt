@@ -3,6 +3,7 @@ use Rattle.std.specs.Prelude.{ℕ, suc, ◌+◌, ◌-◌, Bool, true, false, con
 use Rattle.choosing.specs.Choice.{lowest}
 use Rattle.choosing.specs.declared.party.Party.{Party}
 use Rattle.giving.specs.Channels.{Chan, fresh}
+use Rattle.giving.specs.declared.ids.StationId.{StationId}
 use Rattle.pieces.specs.Memory.{word_at}
 use Rattle.pieces.specs.Stretches.{covered}
 use Rattle.pieces.specs.declared.names.Seat.{Seat}
@@ -10,22 +11,27 @@ use Rattle.pieces.specs.declared.names.Train.{Train}
 use Rattle.pieces.specs.declared.piece.Piece.{Piece}
 
 -- `me` is the station's own number. Each open train has a slot, and the words of its seats stand at the place of that slot.
--- Beside the slots stands whether a ticket of the train was ever sold here. The ticket with the number n stands at n - 1 - dropped: the
+-- Beside the slots stands whether a ticket of the train was ever sold here, and to which stations a piece of it was ever given. The ticket with the number n stands at n - 1 - dropped: the
 -- first `dropped` tickets are forgotten. `asked` is the number of the last ask that was made.
 pub record State : Type 0 where
   pub me : ℕ
   pub slots : List (Option Train)
   pub words : List ℕ
   pub ever_sold : List Bool
+  pub ever_gave : List (List Bool)
   pub closed : List Train
   pub dropped : ℕ
   pub tickets : List (Option Party)
   pub asked : ℕ
   pub channels : List Chan
 
+-- a piece was given to none of the stations yet
+unfoldable pub nobody : List Bool
+nobody = replicate 256 false
+
 -- number `me` of n stations, which has done nothing yet
 abbrev pub begun : (n me : ℕ) → State
-begun n i = record { me = i; slots = replicate 64 None; words = replicate 25600 0; ever_sold = replicate 64 false; closed = []; dropped = 0; tickets = []; asked = 0; channels = replicate n fresh }
+begun n i = record { me = i; slots = replicate 64 None; words = replicate 25600 0; ever_sold = replicate 64 false; ever_gave = replicate 64 nobody; closed = []; dropped = 0; tickets = []; asked = 0; channels = replicate n fresh }
 
 -- ---- trains
 
@@ -70,6 +76,10 @@ holds_piece s p = nat_lt p.seat.0 400 && covered (word_at s.words (place s p.tra
 -- a ticket of an open train was ever sold here, whether it stands or not
 abbrev pub has_sold : State → Train → Bool
 has_sold s t = slice_index_or s.ever_sold (place s t) false
+
+-- a piece of an open train was ever given to a station
+abbrev pub has_given : State → Train → StationId → Bool
+has_given s t k = slice_index_or (slice_index_or s.ever_gave (place s t) []) k.0 false
 
 -- the seat of a train that is kept when another station asks: where one of the train was ever sold, the lowest of which anything is held
 abbrev pub kept : State → Train → Option Seat

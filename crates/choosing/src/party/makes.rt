@@ -38,8 +38,8 @@ impl Party {
     }
 
     // One more, with a seat.
-    pub(crate) fn push(&mut self, seat: Seat)
-        requires { self.old.count < 8 }
+    pub fn push(&mut self, seat: Seat)
+        requires { length (seats_of self.old) < 8 }
         ensures { (z : Run) (t : Way) (ss : List Chair) → self.old ≡ party_of z t ss → self.new ≡ party_of z t (ss ++ seat ∷ []) }
     {
         self.seats[usize::from(self.count)] = seat;

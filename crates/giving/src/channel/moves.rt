@@ -131,6 +131,13 @@ impl Channel {
         self.heard
     }
 
+    // The latest of the other station's asks that were answered.
+    pub fn answered_to(&self) -> Ask
+        ensures { result ≡ record { 0 = (chan self.now).answered } }
+    {
+        self.answered
+    }
+
     // Whether an ask of the other station's is later than all that were answered.
     pub fn is_unanswered(&self, ask: Ask) -> bool
         ensures { result ≡ unanswered (chan self.now) ask.0 }

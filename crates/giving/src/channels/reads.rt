@@ -147,6 +147,14 @@ impl Channels {
             .map_or(Number(0), |channel| channel.heard_to())
     }
 
+    // The latest ask of a station's that was answered.
+    pub fn answered_to(&self, from: StationId) -> Ask
+        ensures { result ≡ record { 0 = (line (chans self.now) from.0).answered } }
+    {
+        self.channel(from)
+            .map_or(Ask(0), |channel| channel.answered_to())
+    }
+
     // Whether an ask of a station's is later than all of its that were answered.
     pub fn is_unanswered(&self, from: StationId, ask: Ask) -> bool
         ensures { result ≡ unanswered (line (chans self.now) from.0) ask.0 }

@@ -1,23 +1,23 @@
-// What happens in a world. Each call is a run of steps, and exactly what was asked.
-ghost use Rattle.std.specs.Prelude.{◌≡◌, ℕ, ◌<◌, ◌≤◌, [], IfOk, vec_len, MatchOption};
+// What happens in a world. Each call is a run of moves, and exactly what was asked.
+ghost use Rattle.std.specs.Prelude.{◌≡◌, ℕ, ◌<◌, ◌≤◌, Some, None, [], replicate, IfOk, vec_len, MatchResult, MatchBool};
 ghost use Rattle.asking.specs.Minds.{empty as unminded};
-ghost use Rattle.network.specs.Promises.{HeedsAll};
-ghost use Rattle.network.specs.Worlds.{Steps};
-ghost use Rattle.rehearsal.specs.Requests.{requested};
-ghost use Rattle.rehearsal.specs.Seen.{seen, rows, count, state_of, mind_of, Same, Happened, OpenedBy, Delivered, Undelivered};
+ghost use Rattle.network.specs.Falls.{Moves};
+ghost use Rattle.network.specs.Runs.{HeedsAll};
+ghost use Rattle.counter.specs.Requests.{requested};
+ghost use Rattle.rehearsal.specs.Seen.{seen, rows, count, state_of, mind_of, cuts};
+ghost use Rattle.rehearsal.specs.Turns.{Still, Same, TurnedBy, TurnedOpen, WhereThere, Delivered, Undelivered};
 ghost use Rattle.state.specs.States.{begun};
 ghost use Rattle.timetable.specs.Additions.{empty};
 
 use super::World;
 use crate::post::Post;
-use crate::request::Request;
-use asking::desk::Desk;
+use crate::turn::Turn;
 use asking::event::{Event, Reply};
+use counter::request::Request;
 use giving::ids::StationId;
 use giving::message::Message;
-use giving::refusal::Refusal;
 use ledger::input::Outcome;
-use state::station::Station;
+use recovery::machine::Machine;
 use std::alloc::{AllocError, Global};
 use timetable::row::Row;
 use timetable::timetable::Timetable;
@@ -25,17 +25,17 @@ use timetable::timetable::Timetable;
 impl World {
     // So many stations that have done nothing yet and have nothing in mind, and a timetable with no train.
     pub fn new(heap: Global, stations: u8) -> Result<World, AllocError>
-        ensures { IfOk result (λ w. (count w ≡ stations) × (rows w ≡ empty) × (w.said.items ≡ []) × ((k : ℕ) → k < stations → (state_of w k ≡ begun stations k) × (mind_of w k ≡ unminded))) }
+        ensures { IfOk result (λ w. (count w ≡ stations) × (rows w ≡ empty) × (w.said.items ≡ []) × (cuts w ≡ replicate stations None)
+            × ((k : ℕ) → k < stations → (state_of w k ≡ begun stations k) × (mind_of w k ≡ unminded))) }
     {
         let mut posts = Vec::new(heap);
         for k in 0..stations {
-            let station = Station::new(heap, StationId(k), u16::from(stations))?;
-            let desk = Desk::new(heap)?;
-            let journal = Vec::new(heap);
+            let machine = Machine::new(heap, StationId(k), u16::from(stations))?;
+            let file = Vec::new(heap);
             posts.push(Post {
-                station,
-                desk,
-                journal,
+                machine,
+                file,
+                cut: None,
             })?;
         }
         Ok(World {
@@ -45,51 +45,90 @@ impl World {
         })
     }
 
-    // An event at a station; what it takes or hears must have been said to it.
-    fn perform(&mut self, place: usize, event: Event) -> Result<Reply, Refusal>
+    // An event at a station; what it takes or hears must have been said to it. Where its power is to be cut, it falls in the midst of it.
+    fn perform(
+        &mut self,
+        heap: Global,
+        place: usize,
+        event: Event,
+    ) -> Result<Turn<Reply>, AllocError>
         requires there { place < vec_len self.old.posts }
         requires told { HeedsAll self.old.said.items place event }
-        ensures steps { ∥ Steps (count self.old) (rows self.old) (seen self.old) (seen self.new) ∥₁ }
-        ensures came { Happened self.old place event self.new result }
+        ensures steps { ∥ Moves (count self.old) (rows self.old) (seen self.old) (seen self.new) ∥₁ }
+        ensures came { TurnedBy self.old place event self.new result }
     {
-        self.posts[place].handle(&self.trains, &mut self.said, event)
+        let Some(bytes) = self.posts[place].cut else {
+            let reply = self.posts[place].handle(&self.trains, &mut self.said, event);
+            return Ok(Turn::Came(reply));
+        };
+        self.posts[place].fall(heap, &self.trains, &mut self.said, event, bytes)?;
+        Ok(Turn::Fell)
     }
 
     // A station is asked at its counter, or its clock ticks. None where it is not there.
-    pub fn ask(&mut self, who: StationId, request: Request) -> Option<Result<Reply, Refusal>>
-        ensures steps { ∥ Steps (count self.old) (rows self.old) (seen self.old) (seen self.new) ∥₁ }
-        ensures came { MatchOption result ((count self.old ≤ who.0) × Same self.old self.new) (λ r. (who.0 < count self.old) × Happened self.old who.0 (requested request) self.new r) }
+    pub fn ask(
+        &mut self,
+        heap: Global,
+        who: StationId,
+        request: Request,
+    ) -> Result<Option<Turn<Reply>>, AllocError>
+        ensures steps { ∥ Moves (count self.old) (rows self.old) (seen self.old) (seen self.new) ∥₁ }
+        ensures came { WhereThere result ((count self.old ≤ who.0) × Same self.old self.new) (λ t. (who.0 < count self.old) × TurnedBy self.old who.0 (requested request) self.new t) }
     {
-        let place = self.place(who)?;
-        Some(self.perform(place, request.into()))
+        let Some(place) = self.place(who) else {
+            return Ok(None);
+        };
+        let turn = self.perform(heap, place, request.into())?;
+        Ok(Some(turn))
     }
 
     // A train is opened at a station, and all have its row.
-    pub fn open(&mut self, who: StationId, row: Row) -> Option<Result<Outcome, Refusal>>
-        ensures steps { ∥ Steps (count self.old) (rows self.new) (seen self.old) (seen self.new) ∥₁ }
-        ensures came { MatchOption result ((count self.old ≤ who.0) × Same self.old self.new) (λ o. (who.0 < count self.old) × OpenedBy self.old who.0 row self.new o) }
+    pub fn open(
+        &mut self,
+        heap: Global,
+        who: StationId,
+        row: Row,
+    ) -> Result<Option<Turn<Outcome>>, AllocError>
+        ensures steps { ∥ Moves (count self.old) (rows self.new) (seen self.old) (seen self.new) ∥₁ }
+        ensures came { WhereThere result ((count self.old ≤ who.0) × Same self.old self.new) (λ t. (who.0 < count self.old) × TurnedOpen self.old who.0 row self.new t) }
     {
-        let place = self.place(who)?;
-        Some(self.open_at(place, row))
+        let Some(place) = self.place(who) else {
+            return Ok(None);
+        };
+        let turn = self.open_at(heap, place, row)?;
+        Ok(Some(turn))
     }
 
-    // A station opens a train.
-    fn open_at(&mut self, place: usize, row: Row) -> Result<Outcome, Refusal>
+    // A station opens a train, or falls in the midst of it.
+    fn open_at(&mut self, heap: Global, place: usize, row: Row) -> Result<Turn<Outcome>, AllocError>
         requires { place < vec_len self.old.posts }
-        ensures steps { ∥ Steps (count self.old) (rows self.new) (seen self.old) (seen self.new) ∥₁ }
-        ensures came { OpenedBy self.old place row self.new result }
+        ensures steps { ∥ Moves (count self.old) (rows self.new) (seen self.old) (seen self.new) ∥₁ }
+        ensures came { TurnedOpen self.old place row self.new result }
     {
-        self.posts[place].open(&mut self.trains, row)
+        let Some(bytes) = self.posts[place].cut else {
+            let outcome = self.posts[place].open(&mut self.trains, row);
+            return Ok(Turn::Came(outcome));
+        };
+        self.posts[place].fall_opening(heap, &mut self.trains, row, bytes)?;
+        Ok(Turn::Fell)
     }
 
     // A message that was said, now or long ago, comes to the station that it is for.
-    pub fn deliver(&mut self, at: usize) -> Option<(Message, Result<Reply, Refusal>)>
-        ensures steps { ∥ Steps (count self.old) (rows self.old) (seen self.old) (seen self.new) ∥₁ }
-        ensures came { MatchOption result (Undelivered self.old at × Same self.old self.new) (λ q. Delivered self.old at self.new q.0 q.1) }
+    pub fn deliver(
+        &mut self,
+        heap: Global,
+        at: usize,
+    ) -> Result<Option<(Message, Turn<Reply>)>, AllocError>
+        ensures steps { ∥ Moves (count self.old) (rows self.old) (seen self.old) (seen self.new) ∥₁ }
+        ensures came { WhereThere result (Undelivered self.old at × Same self.old self.new) (Delivered self.old at self.new) }
     {
-        let message = *self.said.get(at)?;
-        let place = self.place(message.to)?;
-        let reply = self.perform(place, message.into());
-        Some((message, reply))
+        let Some(&message) = self.said.get(at) else {
+            return Ok(None);
+        };
+        let Some(place) = self.place(message.to) else {
+            return Ok(None);
+        };
+        let turn = self.perform(heap, place, message.into())?;
+        Ok(Some((message, turn)))
     }
 }

@@ -81,8 +81,8 @@ impl World {
         requires { (from.0 < count self.now) × (to.0 < count self.now) }
         ensures { result ≡ count_in at.train at.seat.0 at.stop.0 (under_way from.0 to.0 (state_of self.now from.0) (state_of self.now to.0)) }
     {
-        let giver = self.post(from).station.channels();
-        let taker = self.post(to).station.channels();
+        let giver = self.post(from).machine.station.channels();
+        let taker = self.post(to).machine.station.channels();
         let taken = taker.taken_from(from).0;
         let skip = taken.saturating_sub(giver.heard_from(to).0);
         count_waiting_for(giver, to, skip as usize, at)
@@ -106,7 +106,7 @@ impl World {
         ensures all { OnOk result (at.seat.0 < 400 → found.new.items ≡ found.old.items ++ spots_of self.now at.train at.seat.0 at.stop.0 who.0) }
         ensures none { OnOk result (400 ≤ at.seat.0 → found.new.items ≡ found.old.items) }
     {
-        let station = &self.post(who).station;
+        let station = &self.post(who).machine.station;
         if station.holds_stretch(at) {
             found.push(Place::Held(who))?;
         }

@@ -1,5 +1,6 @@
 // What a world shows.
 ghost use Rattle.std.specs.Prelude.{◌≡◌, ◌<◌, ◌≤◌, length, MatchOption, slice_index_or, vec_len};
+ghost use Rattle.rehearsal.specs.Rises.{Rises};
 ghost use Rattle.rehearsal.specs.Seen.{rows, count, state_of};
 ghost use Rattle.state.specs.Views.{view};
 
@@ -39,7 +40,7 @@ impl World {
         ensures { MatchOption result (count self.now ≤ who.0) (λ s. (who.0 < count self.now) × (view s.now ≡ state_of self.now who.0)) }
     {
         let place = self.place(who)?;
-        Some(&self.posts[place].station)
+        Some(&self.posts[place].machine.station)
     }
 
     // The row of a train.
@@ -55,4 +56,9 @@ impl World {
     {
         &self.said
     }
+
+    // A station comes up from its file, whatever of it is left: only want of memory can keep it from that.
+    pub fn files_rise(&self)
+        ensures { Rises self.now }
+    {}
 }

@@ -1,17 +1,17 @@
 // The changes of a station's state, one for each kind of record.
-ghost use Rattle.std.specs.Prelude.{◌≡◌, ◌+◌, ◌-◌, ◌<◌, true, ◌&&◌, ◌||◌, [], ◌∷◌, ◌++◌, map, if◌then◌else◌, vec_len, vec_capacity, MatchResult, ◌==◌, slice_set};
+ghost use Rattle.std.specs.Prelude.{◌≡◌, ◌+◌, ◌-◌, ◌<◌, true, ◌&&◌, ◌||◌, [], ◌∷◌, ◌++◌, map, if◌then◌else◌, vec_len, vec_capacity, MatchResult, OnErr, ◌==◌, slice_set};
 ghost use Rattle.giving.specs.Calls.{givable};
 ghost use Rattle.giving.specs.Channels.{declined, gave, heard_to, line, news, other, took, unanswered};
 ghost use Rattle.giving.specs.declared.refusal.Refusal.TheVariants.{Memory};
-ghost use Rattle.state.specs.Changes.{apply, changed, changed_all, closing, fits, forgotten, opened, put_all, put_back, received, returned, taken_all, taken_out, with_asked, with_line, with_sold, with_tickets};
+ghost use Rattle.state.specs.Changes.{apply, changed, changed_all, closing, fits, forgotten, opened, put_all, put_back, received, returned, taken_all, taken_out, with_asked, with_gave, with_line, with_sold, with_tickets};
 ghost use Rattle.state.specs.Ready.{Ready, Seated, SeatedAll, Spent, Standing, trimming};
 ghost use Rattle.state.specs.States.{is_open, known, openable, ticket_of, tickets_left};
 ghost use Rattle.state.specs.Views.{view};
 ghost use Rattle.timetable.specs.Rows.{listed};
 ghost use Rattle.timetable.specs.Tables.{table as rows_of};
 
-use super::Station;
 use super::sales::{forget_all, stale_count};
+use super::{STATIONS, Station};
 use crate::record::Record;
 use choosing::party::Party;
 use giving::ids::{Ask, Number, StationId, Ticket};
@@ -74,6 +74,7 @@ impl Station {
     }
 
     // Opens a train of the timetable: the first station has all of it, and every other one nothing.
+    #[tactic(auto, unfolding(crate::specs::States::nobody))]
     fn open_train(&mut self, table: &Timetable, train: Train)
         requires { openable (view self.old) ≡ true }
         ensures { view self.new ≡ opened (rows_of table.now train.0) train (view self.old) }
@@ -90,6 +91,7 @@ impl Station {
         self.memory.open(slot, row.seats, word);
         self.slots[slot.index()] = Some(train);
         self.ever_sold[slot.index()] = false;
+        self.ever_gave[slot.index()] = [false; STATIONS];
     }
 
     // Opens a train that is not open.
@@ -143,8 +145,10 @@ impl Station {
     fn give(&mut self, to: StationId, ask: Ask, piece: Piece)
         requires seated { Seated (view self.old) piece }
         requires goes { (givable (view self.old).channels to.0 && other (view self.old).me (view self.old).channels to.0) ≡ true }
-        ensures { view self.new ≡ with_line (taken_out (view self.old) piece) to (gave (line (view self.old).channels to.0) ask.0 piece) }
+        ensures { view self.new ≡ with_gave (with_line (taken_out (view self.old) piece) to (gave (line (view self.old).channels to.0) ask.0 piece)) piece.train to }
     {
+        let slot = self.slot(Some(piece.train)).unwrap();
+        self.ever_gave[slot.index()][usize::from(to.0)] = true;
         self.channels.give(to, ask, piece).unwrap();
         self.take_out(piece);
     }
@@ -200,6 +204,7 @@ impl Station {
     pub fn reserve(&mut self, entry: Record) -> Result<(), Refusal>
         ensures state { view self.new ≡ view self.old }
         ensures cases { MatchResult result (λ _. Ready self.new entry) (λ e. (e ≡ Memory) × Spent self.old entry) }
+        ensures still { OnErr result (Spent self.new entry) }
     {
         match entry {
             Record::Sold(_, _) => self.tickets.reserve(1)?,

@@ -5,10 +5,10 @@ ghost use Rattle.choosing.specs.Parties.{party_of};
 ghost use Rattle.pieces.specs.Counts.{tally_of};
 ghost use Rattle.pieces.specs.Memory.{train_at, word_at};
 ghost use Rattle.pieces.specs.Stretches.{holds};
-ghost use Rattle.state.specs.States.{begun, same, place_of, place, is_open, was_closed, known, openable, holds_piece, kept, sold, tickets_left, asks_left, ticket_of};
+ghost use Rattle.state.specs.States.{begun, same, place_of, place, is_open, was_closed, known, openable, holds_piece, has_given, kept, sold, tickets_left, asks_left, ticket_of};
 ghost use Rattle.state.specs.Views.{view};
 
-use super::Station;
+use super::{STATIONS, Station};
 use choosing::choice::{choose_all_at, choose_beside_at, lowest_held_at};
 use choosing::party::Party;
 use giving::channels::Channels;
@@ -37,6 +37,7 @@ impl Station {
             slots,
             memory,
             ever_sold: [false; PLACES],
+            ever_gave: [[false; STATIONS]; PLACES],
             closed: Vec::new(heap),
             dropped: 0,
             tickets: Vec::new(heap),
@@ -131,6 +132,14 @@ impl Station {
     {
         let slot = self.slot(Some(train)).unwrap();
         choose_all_at(&self.memory, slot, count, train, trip, people)
+    }
+
+    // Whether a piece of an open train was ever given to a station.
+    pub fn has_given(&self, train: Train, to: StationId) -> bool
+        ensures { result ≡ has_given (view self.now) train to }
+    {
+        self.slot(Some(train))
+            .is_some_and(|slot| self.ever_gave[slot.index()][usize::from(to.0)])
     }
 
     // The seat of a train that is kept when another station asks.

@@ -1,5 +1,7 @@
 // Looking up in the timetable, and putting rows into it.
-ghost use Rattle.std.specs.Prelude.{◌≡◌, ℕ, None};
+ghost use Rattle.std.specs.Prelude.{◌≡◌, ℕ, ◌<◌, AllPairs, is_some, None, ◌==◌};
+ghost use Rattle.std.specs.List.{list_any};
+ghost use Rattle.pieces.specs.declared.names.Train.{Train as Run};
 ghost use Rattle.timetable.specs.Additions.{empty, admitted, Added};
 ghost use Rattle.timetable.specs.Rows.{listed};
 ghost use Rattle.timetable.specs.Tables.{table};
@@ -11,6 +13,7 @@ use pieces::names::Train;
 use pieces::piece::Piece;
 use std::alloc::Global;
 use std::collections::BTreeMap;
+use std::collections::btree_map::Keys;
 
 impl Timetable {
     // A timetable with no row.
@@ -28,6 +31,14 @@ impl Timetable {
         ensures { result ≡ table self.now train.0 }
     {
         self.rows.get(&train).copied()
+    }
+
+    // The trains, by number.
+    pub fn trains(&self) -> Keys<'_, Train, Row>
+        ensures each { (t : Run) → list_any (λ (x : Run). x.0 == t.0) result ≡ is_some (table self.now t.0) }
+        ensures ordered { AllPairs (λ (x y : Run). x.0 < y.0) result }
+    {
+        self.rows.keys()
     }
 
     // Whether the train of a piece is in the timetable, and has the piece.

@@ -1,4 +1,5 @@
 use Rattle.std.proofs.Common.{ℕ, length, get_or, refl, ap, arith}
+use Rattle.std.proofs.lemmas.List.{length-take}
 use Rattle.choosing.specs.Choice.{group}
 use Rattle.choosing.specs.declared.party.Party.{Party}
 use Rattle.choosing.proofs.Seated.{one_more_seated, nobody_more}
@@ -15,7 +16,7 @@ returns-in_default c =
     (omega arith) (omega arith) c.loop.invariant c.seats.ensures c.in_default.ensures.value
 
 pub push-requires : goal.push-requires
-push-requires c = omega (arith, ap (λ (x : Party). x.count) c.loop.invariant.0)
+push-requires c = omega (arith, length-take c.loop.party.count c.loop.party.seats, ap (λ (x : Party). x.count) c.loop.invariant.0)
 
 pub loop-preserved : goal.loop-preserved
 loop-preserved c =

@@ -1,5 +1,5 @@
 use Rattle.std.proofs.Common.{◌≡◌, length, vec_items}
-use Rattle.rehearsal.proofs.Living.{Begun}
+use Rattle.rehearsal.proofs.Begun.{Begun}
 use Rattle.rehearsal.proofs.world.World.new.Given as goal
 
 abbrev pub invariant-loop-k : goal.invariant-loop-k

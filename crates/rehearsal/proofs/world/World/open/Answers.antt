@@ -1,5 +1,5 @@
-use Rattle.network.specs.Worlds.{none}
+use Rattle.network.specs.Falls.{none}
 use Rattle.rehearsal.proofs.world.World.open.Goals as goal
 
-pub returns-in_err-place-clause-steps : goal.returns-in_err-place-clause-steps
-returns-in_err-place-clause-steps c = ∣ none ∣₁
+pub returns-in_default-clause-steps : goal.returns-in_default-clause-steps
+returns-in_default-clause-steps c = ∣ none ∣₁

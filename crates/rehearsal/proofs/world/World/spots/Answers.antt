@@ -3,7 +3,7 @@ use Rattle.network.specs.Places.{holding, count_in, standing}
 use Rattle.network.specs.declared.place.Place.TheVariants.{Held, Sold}
 use Rattle.rehearsal.proofs.Absent.{sold_none, ways_none}
 use Rattle.rehearsal.proofs.Finding.{held_at, found_nothing, found_then, found_else, found_three}
-use Rattle.rehearsal.proofs.Living.{here_is}
+use Rattle.rehearsal.proofs.Posts.{here_is}
 use Rattle.rehearsal.specs.Seen.{state_of}
 use Rattle.std.proofs.lemmas.Bool.{le-ltb, false≢true}
 use Rattle.std.proofs.lemmas.Result.{IfOk-weaker}

@@ -1,0 +1,11 @@
+pub mod Seating
+pub mod Lengths
+pub mod Layouts
+pub mod Numbers
+pub mod Pieces
+pub mod Tickets
+pub mod Records
+pub mod Parts
+pub mod Laws
+pub mod Reached
+pub mod Firm

@@ -1,0 +1,210 @@
+-- Records read from the front of some bytes, with the first fault that is met.
+use Rattle.std.specs.Prelude.{◌≡◌, MatchResult, ℕ, zero, suc, ◌*◌, ◌/◌, Bool, true, false, cond, ◌&&◌, List, [], ◌∷◌, length, take, drop, Result, Ok, Err, Option, Some, None, ◌==◌, nat_lt}
+use Rattle.std.proofs.Common.{Bor}
+use Rattle.std.specs.Int.{Width, w16, w32, byte_len, from_be_bytes}
+use Rattle.choosing.specs.Parties.{party_of, some}
+use Rattle.choosing.specs.declared.party.Party.{Party}
+use Rattle.files.specs.declared.fault.Fault.{Fault}
+use Rattle.files.specs.declared.fault.Fault.TheVariants.{Cut, Bad}
+use Rattle.pieces.specs.Parts.{piece_of, trip_from}
+use Rattle.pieces.specs.declared.names.Seat.{Seat}
+use Rattle.pieces.specs.declared.names.Train.{Train}
+use Rattle.pieces.specs.declared.piece.Piece.{Piece}
+use Rattle.pieces.specs.declared.trip.Trip.{Trip}
+use Rattle.state.specs.declared.record.Record.{Record}
+use Rattle.state.specs.declared.record.Record.TheVariants.{Opened, Closed, Sold, Undone, Given, Taken, Heard, Asked, Declined}
+
+-- ---- readers: each gives a value and the bytes behind it, or the fault that it meets
+
+abbrev pub Reader : Type 0 → Type 0
+Reader A = List ℕ → Result (A × List ℕ) Fault
+
+infixl 10 ◌>>=◌
+abbrev pub ◌>>=◌ : {A B : Type 0} → Result A Fault → (A → Result B Fault) → Result B Fault
+(Ok x) >>= f = f x
+(Err e) >>= f = Err e
+
+-- what a function reads is what a reader reads
+abbrev pub Reads : {A : Type 0} → Result (A × Bor (List ℕ)) Fault → Result (A × List ℕ) Fault → Type 0
+Reads result read = MatchResult result (λ r. read ≡ Ok (r.0, r.1.now)) (λ f. read ≡ Err f)
+
+-- one behind the other, the second by what the first gave
+abbrev pub then : {A B : Type 0} → Reader A → (A → Reader B) → Reader (A × B)
+then r s bs = do
+  x ← r bs
+  y ← s x.0 x.1
+  Ok ((x.0, y.0), y.1)
+
+-- what is read, and then tested
+abbrev pub checked : {A B : Type 0} → (A → Result B Fault) → Reader A → Reader B
+checked f r bs = do
+  x ← r bs
+  y ← f x.0
+  Ok (y, x.1)
+
+-- what a function makes of what is read
+abbrev pub made : {A B : Type 0} → (A → B) → Reader A → Reader B
+made f = checked (λ x. Ok (f x))
+
+-- ---- numbers and pieces
+
+abbrev pub byte : Reader ℕ
+byte [] = Err Cut
+byte (b ∷ bs) = Ok (b, bs)
+
+-- so many bytes
+abbrev pub front : ℕ → Reader (List ℕ)
+front n bs = cond (nat_lt (length bs) n) (Err Cut) (Ok (take n bs, drop n bs))
+
+-- a number of a width, its highest byte first
+abbrev pub number : Width → Reader ℕ
+number w = made (from_be_bytes w) (front (byte_len w))
+
+abbrev pub word : Reader ℕ
+word = number w32
+
+-- a piece of a train and a seat, if there is a trip
+abbrev pub piece_on : (t s : ℕ) → Option Trip → Result Piece Fault
+piece_on t s None = Err Bad
+piece_on t s (Some r) = Ok (piece_of (record { 0 = t }) (record { 0 = s }) r)
+
+-- a train, a seat, and two stops between which there is a trip
+abbrev pub piece_from : ℕ × (ℕ × (ℕ × ℕ)) → Result Piece Fault
+piece_from x = piece_on x.0 x.1.0 (trip_from (record { 0 = x.1.1.0 }) (record { 0 = x.1.1.1 }))
+
+abbrev pub piece : Reader Piece
+piece = checked piece_from (then word (λ _. then (number w16) (λ _. then byte (λ _. byte))))
+
+-- ---- the pieces of a ticket
+
+-- the seat of a piece of this train and this trip
+abbrev pub seat_on : Train → Trip → Piece → Result Seat Fault
+seat_on z t p = cond (p.train.0 == z.0 && (p.trip.from.0 == t.from.0 && p.trip.to.0 == t.to.0)) (Ok p.seat) (Err Bad)
+
+-- the seats of so many pieces
+abbrev pub seats : Train → Trip → ℕ → Reader (List Seat)
+seats z t zero bs = Ok ([], bs)
+seats z t (suc n) bs = made (λ x. x.0 ∷ x.1) (then (checked (seat_on z t) piece) (λ _. seats z t n)) bs
+
+-- the party of some pieces, of eight bytes each, which are all of the train and the trip of the first
+abbrev pub party : List ℕ → Result Party Fault
+party bs = do
+  p ← piece bs
+  ss ← seats p.0.train p.0.trip (length bs / 8) bs
+  Ok (party_of p.0.train p.0.trip ss.0)
+
+-- how many people a ticket is for
+abbrev pub people : ℕ → Result ℕ Fault
+people n = cond (some n) (Ok n) (Err Bad)
+
+-- the pieces of a ticket, as they stand there
+abbrev pub pieces : Reader (List ℕ)
+pieces = made (λ x. x.1) (then (checked people byte) (λ n. front (8 * n)))
+
+-- ---- records: what is made of what is read, and its reader
+
+abbrev pub as_sold : ℕ × Party → Record
+as_sold x = Sold (record { 0 = x.0 }) x.1
+
+-- a fault in a piece is met once they are all there
+abbrev pub sold : Reader Record
+sold = made as_sold (then word (λ _. checked party pieces))
+
+abbrev pub as_undone : ℕ → Record
+as_undone n = Undone (record { 0 = n })
+
+abbrev pub undone : Reader Record
+undone = made as_undone word
+
+abbrev pub as_given : ℕ × (ℕ × (ℕ × Piece)) → Record
+as_given x = Given (record { 0 = x.0 }) (record { 0 = x.1.0 }) (record { 0 = x.1.1.0 }) x.1.1.1
+
+abbrev pub given : Reader Record
+given = made as_given (then byte (λ _. then word (λ _. then word (λ _. piece))))
+
+abbrev pub as_taken : ℕ × (ℕ × Piece) → Record
+as_taken x = Taken (record { 0 = x.0 }) (record { 0 = x.1.0 }) x.1.1
+
+abbrev pub taken : Reader Record
+taken = made as_taken (then byte (λ _. then word (λ _. piece)))
+
+abbrev pub as_opened : ℕ → Record
+as_opened n = Opened (record { 0 = n })
+
+abbrev pub opened : Reader Record
+opened = made as_opened word
+
+abbrev pub as_closed : ℕ → Record
+as_closed n = Closed (record { 0 = n })
+
+abbrev pub closed : Reader Record
+closed = made as_closed word
+
+abbrev pub as_heard : ℕ × ℕ → Record
+as_heard x = Heard (record { 0 = x.0 }) (record { 0 = x.1 })
+
+abbrev pub heard : Reader Record
+heard = made as_heard (then byte (λ _. word))
+
+abbrev pub as_asked : ℕ → Record
+as_asked n = Asked (record { 0 = n })
+
+abbrev pub asked : Reader Record
+asked = made as_asked word
+
+abbrev pub as_declined : ℕ × ℕ → Record
+as_declined x = Declined (record { 0 = x.0 }) (record { 0 = x.1 })
+
+abbrev pub declined : Reader Record
+declined = made as_declined (then byte (λ _. word))
+
+-- what a record of a kind says
+abbrev pub of_kind : ℕ → Reader Record
+of_kind k bs =
+    cond (k == 6) (sold bs)
+    (cond (k == 7) (undone bs)
+    (cond (k == 8) (given bs)
+    (cond (k == 9) (taken bs)
+    (cond (k == 10) (opened bs)
+    (cond (k == 11) (closed bs)
+    (cond (k == 12) (heard bs)
+    (cond (k == 20) (asked bs)
+    (cond (k == 21) (declined bs) (Err Bad)))))))))
+
+-- the record that some bytes begin with, and the bytes behind it
+abbrev pub first : Reader Record
+first bs = do
+  k ← byte bs
+  of_kind k.0 k.1
+
+-- ---- all records up to the first fault, and what is behind them
+
+abbrev pub on_record : {B : Type 0} → B → Result (Record × List ℕ) Fault → (Record → List ℕ → B) → B
+on_record b (Ok x) f = f x.0 x.1
+on_record b (Err e) f = b
+
+-- the first n records at most
+abbrev pub records_in : ℕ → List ℕ → List Record
+records_in zero bs = []
+records_in (suc n) bs = on_record [] (first bs) (λ e r. e ∷ records_in n r)
+
+-- and what is behind them
+abbrev pub rest_in : ℕ → List ℕ → List ℕ
+rest_in zero bs = bs
+rest_in (suc n) bs = on_record bs (first bs) (λ e r. rest_in n r)
+
+-- all of them, since each has a byte at least
+abbrev pub records_of : List ℕ → List Record
+records_of bs = records_in (length bs) bs
+
+abbrev pub rest_of : List ℕ → List ℕ
+rest_of bs = rest_in (length bs) bs
+
+abbrev pub cut : {A : Type 0} → Result A Fault → Bool
+cut (Ok x) = false
+cut (Err Cut) = true
+cut (Err Bad) = false
+
+-- more bytes may make a record of it
+abbrev pub is_cut : List ℕ → Bool
+is_cut bs = cut (first bs)

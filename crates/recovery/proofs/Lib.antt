@@ -1,0 +1,5 @@
+pub mod Sounding
+pub mod Journals
+pub mod Rises
+pub mod Sizes
+pub mod Redone

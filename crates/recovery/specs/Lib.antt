@@ -1,0 +1,5 @@
+pub mod Rising
+pub mod Runs
+pub mod Laws
+pub mod Replays
+pub mod Machines

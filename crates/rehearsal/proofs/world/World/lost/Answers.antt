@@ -1,0 +1,8 @@
+use Rattle.network.specs.Falls.{none}
+use Rattle.rehearsal.proofs.world.World.lost.Goals as goal
+
+pub returns-in_default-clause-steps : goal.returns-in_default-clause-steps
+returns-in_default-clause-steps c = ∣ none ∣₁
+
+pub returns-clause-steps : goal.returns-clause-steps
+returns-clause-steps c = ∣ none ∣₁
