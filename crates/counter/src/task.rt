@@ -1,13 +1,13 @@
 // What a line asks of a station.
 ghost use Rattle.std.specs.Prelude.{◌≡◌};
-ghost use Rattle.counter.specs.Tasks.{demand_of, task_of};
+ghost use Rattle.counter.specs.Tasks.{demand_of, other_of, task_of};
 
 use crate::request::Request;
 use giving::ids::{StationId, Ticket};
 use pieces::demand::Demand;
 use pieces::names::{Stop, Train};
 use script::command::{Deed, Opening, Wish};
-use script::values::{byte, station_id};
+use script::values::byte;
 
 #[derive(Clone, Copy, Drop)]
 pub enum Task {
@@ -30,17 +30,25 @@ fn demand(wish: Wish) -> Demand
     }
 }
 
-impl From<Deed> for Task {
-    ghost from_gives = { λ deed task. task ≡ task_of deed };
+// Another station by its number. One that no station can have is `me`, the one that is asked, which is refused alike.
+fn other(number: u32, me: StationId) -> StationId
+    ensures { result ≡ other_of me number }
+{
+    u8::try_from(number).map_or(me, StationId)
+}
 
-    fn from(deed: Deed) -> Task {
+impl Task {
+    // What a line asks of station `me`.
+    pub fn of(deed: Deed, me: StationId) -> Task
+        ensures { result ≡ task_of me deed }
+    {
         match deed {
             Deed::Open(opening) => Task::Open(opening),
-            Deed::Lost { other } => Task::Lost(station_id(other)),
+            Deed::Lost { other: who } => Task::Lost(other(who, me)),
             Deed::Close { train } => Task::Request(Request::Close(Train(train))),
             Deed::Sell(wish) => Task::Request(Request::Sell(demand(wish))),
             Deed::Undo { ticket } => Task::Request(Request::Undo(Ticket(ticket))),
-            Deed::Give { to, wish } => Task::Request(Request::Give(station_id(to), demand(wish))),
+            Deed::Give { to, wish } => Task::Request(Request::Give(other(to, me), demand(wish))),
             Deed::Ask(wish) => Task::Request(Request::Ask(demand(wish))),
             Deed::Tick => Task::Request(Request::Tick),
         }

@@ -89,7 +89,7 @@ impl Game {
     ) -> Result<(), AllocError> {
         let who = station_id(number);
         let before = self.world.said().len();
-        let turn = match Task::from(deed) {
+        let turn = match Task::of(deed, who) {
             Task::Lost(other) => return self.lost(heap, who, other, page),
             Task::Open(opening) => self.open(heap, who, opening)?,
             Task::Request(request) => self.world.ask(heap, who, request)?,

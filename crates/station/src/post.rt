@@ -177,7 +177,8 @@ impl Post {
             return Ok(page);
         };
         let mut answer = String::new(self.heap);
-        self.perform(deed.into(), &mut answer)?;
+        let task = Task::of(deed, self.machine.station.me());
+        self.perform(task, &mut answer)?;
         self.sync()?;
         for message in &self.out {
             writeln!(page, "out {} {}", message.to, Hex(message.body))?;
