@@ -14,7 +14,7 @@ pub fn byte(number: u32) -> u8
     u8::try_from(number).unwrap_or(u8::MAX)
 }
 
-// A station by its number; one that cannot be is the last of all, which is never there.
+// A station by its number; one that cannot be is the last of all, which is not there among fewer than 256.
 pub fn station_id(number: u32) -> StationId
     ensures { result.0 ≡ min number 255 }
 {

@@ -1,5 +1,5 @@
 // What happens to a part of a file.
-ghost use Rattle.std.specs.Prelude.{◌≡◌, ◌≤◌, ◌-◌, length, take, drop};
+ghost use Rattle.std.specs.Prelude.{◌≡◌, ◌≤◌, ◌-◌, length, take, drop, nat_lt, IfOk};
 
 use super::Part;
 use std::alloc::{AllocError, Global};
@@ -15,14 +15,18 @@ fn room(heap: Global) -> Result<Vec<u8>, AllocError> {
 }
 
 impl Part {
-    pub fn new(heap: Global) -> Result<Part, AllocError> {
+    // Nothing was read yet.
+    pub fn new(heap: Global) -> Result<Part, AllocError>
+        ensures { IfOk result (λ part. part.filled ≡ 0) }
+    {
         let bytes = room(heap)?;
         Ok(Part { bytes, filled: 0 })
     }
 
     // What was read.
     pub fn filled(&self) -> &[u8]
-        ensures { length result.now ≡ self.now.filled }
+        ensures value { result.now ≡ take self.now.filled self.now.bytes.items }
+        ensures len { length result.now ≡ self.now.filled }
     {
         &self.bytes[..self.filled]
     }
@@ -35,7 +39,10 @@ impl Part {
     }
 
     // Reads on; false at the end of the file.
-    pub fn read(&mut self, file: &mut File) -> io::Result<bool> {
+    pub fn read(&mut self, file: &mut File) -> io::Result<bool>
+        ensures kept { take self.old.filled self.new.bytes.items ≡ take self.old.filled self.old.bytes.items }
+        ensures more { IfOk result (λ more. (self.old.filled ≤ self.new.filled) × (more ≡ nat_lt self.old.filled self.new.filled)) }
+    {
         let count = file.read(&mut self.bytes[self.filled..])?;
         self.filled += count;
         Ok(count > 0)
@@ -44,7 +51,8 @@ impl Part {
     // Lets go of the first bytes.
     pub fn let_go(&mut self, count: usize)
         requires { count ≤ self.old.filled }
-        ensures { self.new.filled ≡ self.old.filled - count }
+        ensures left { take self.new.filled self.new.bytes.items ≡ drop count (take self.old.filled self.old.bytes.items) }
+        ensures count { self.new.filled ≡ self.old.filled - count }
     {
         self.bytes.copy_within(count..self.filled, 0);
         self.filled -= count;
