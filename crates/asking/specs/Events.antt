@@ -1,5 +1,5 @@
 -- What an event is decided to come to.
-use Rattle.std.specs.Prelude.{ℕ, Bool, cond, ◌&&◌, length, Ok, Err, Result, ◌==◌, nat_le}
+use Rattle.std.specs.Prelude.{ℕ, Bool, cond, not, ◌&&◌, ◌||◌, length, Ok, Err, Result, ◌==◌, nat_le}
 use Rattle.giving.specs.Calls.{unless}
 use Rattle.giving.specs.Channels.{other}
 use Rattle.giving.specs.declared.ids.Ask.{Ask}
@@ -17,7 +17,7 @@ use Rattle.asking.specs.Minds.{Mind, first, is_asked, wanted}
 use Rattle.asking.specs.Told.{sensible}
 use Rattle.asking.specs.Turns.{turns}
 use Rattle.asking.specs.declared.event.Event.{Event}
-use Rattle.asking.specs.declared.event.Event.TheVariants.{Call, Answered, Told, Tick}
+use Rattle.asking.specs.declared.event.Event.TheVariants.{Call, Answered, Told, Tick, Garbled}
 use Rattle.asking.specs.declared.event.Reply.{Reply}
 use Rattle.asking.specs.declared.event.Reply.TheVariants.{Came, Asks, Noted, Ticked}
 use Rattle.pieces.specs.declared.names.Train.{Train}
@@ -47,12 +47,12 @@ turned s m i (Err r) = Err r
 abbrev pub under_way : State → Mind → StationId → Ask → Bool
 under_way s m from a = a.0 == s.asked && is_asked m.inquiry from
 
--- more than eight, and more than were asked for, are no answer; an answer to any but the ask under way is passed over
+-- more than eight are no answer, and more than are wanted none to the ask under way; an answer to any other ask is passed over
 abbrev pub resolved_answer : State → Mind → StationId → Ask → (count : ℕ) → Response
 resolved_answer s m from a n =
-    unless (nat_le n 8) Malformed
+    unless (nat_le n 8 && (not (under_way s m from a) || nat_le n (wanted m.inquiry))) Malformed
     (unless (other s.me s.channels from.0) NoSuchStation
-    (cond (under_way s m from a) (unless (nat_le n (wanted m.inquiry)) Malformed (Ok Noted)) (Ok (Came Nothing))))
+    (cond (under_way s m from a) (Ok Noted) (Ok (Came Nothing))))
 
 -- what is told of a train that is not open here is passed over
 abbrev pub resolved_telling : Table → State → StationId → Train → Tally → Response
@@ -66,3 +66,4 @@ resolved tb s m (Call i) = turned s m i (decided tb s i)
 resolved tb s m (Answered from a n) = resolved_answer s m from a n
 resolved tb s m (Told from t y) = resolved_telling tb s from t y
 resolved tb s m Tick = Ok Ticked
+resolved tb s m Garbled = Err Malformed

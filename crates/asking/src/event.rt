@@ -17,6 +17,8 @@ pub enum Event {
     // so much of a train is held by a station
     Told(StationId, Train, Tally),
     Tick,
+    // bytes that are no message
+    Garbled,
 }
 
 // What a message is to the station that it comes to.

@@ -1,8 +1,9 @@
 -- What a line asks of a station.
-use Rattle.std.specs.Prelude.{ℕ, min, cond, nat_lt}
+use Rattle.std.specs.Prelude.{ℕ, min}
 use Rattle.counter.specs.declared.request.Request.TheVariants as request
 use Rattle.counter.specs.declared.task.Task.{Task}
 use Rattle.counter.specs.declared.task.Task.TheVariants as task
+use Rattle.giving.specs.Others.{other_of}
 use Rattle.giving.specs.declared.ids.StationId.{StationId}
 use Rattle.pieces.specs.declared.demand.Demand.{Demand}
 use Rattle.script.specs.declared.command.Deed.{Deed}
@@ -15,10 +16,6 @@ byte_of n = min n 255
 
 abbrev pub demand_of : Wish → Demand
 demand_of w = record { train = record { 0 = w.train }; from = record { 0 = byte_of w.from }; to = record { 0 = byte_of w.to }; people = byte_of w.people }
-
--- another station by its number; one that no station can have is the one that is asked, which is refused alike
-abbrev pub other_of : (me : StationId) → ℕ → StationId
-other_of me n = cond (nat_lt n 256) (record { 0 = n }) me
 
 abbrev pub task_of : (me : StationId) → Deed → Task
 task_of me (Open o) = task.Open o

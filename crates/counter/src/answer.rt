@@ -1,11 +1,12 @@
 // What is answered to a line.
-ghost use Rattle.counter.specs.Answers.{answer_text, outcome_text, record_text};
+ghost use Rattle.counter.specs.Answers.{answer_text, outcome_text};
 ghost use Rattle.std.specs.Prelude.{Some};
 
 use asking::event::Reply;
 use giving::ids::Ask;
 use giving::refusal::Refusal;
 use ledger::input::Outcome;
+use receiving::verdict::Verdict;
 use state::record::Record;
 use std::fmt;
 
@@ -23,9 +24,8 @@ impl fmt::Display for Answer {
         match self.0 {
             Ok(Reply::Came(outcome)) => write!(f, "{}", Came(outcome)),
             Ok(Reply::Asks(first)) => write!(f, "asked {first}"),
-            Ok(Reply::Noted) => f.write_str("taken"),
             Ok(Reply::Ticked) => f.write_str("tick"),
-            Err(refusal) => write!(f, "no {refusal}"),
+            response => write!(f, "{}", Verdict::of(response)),
         }
     }
 }
@@ -39,31 +39,12 @@ impl fmt::Display for Came {
 
     fn fmt<W: fmt::Write>(&self, f: &mut fmt::Formatter<W>) -> fmt::Result {
         match self.0 {
-            Outcome::Done(entry) => write!(f, "{}", Done(entry)),
+            Outcome::Done(Record::Opened(train)) => write!(f, "opened {train}"),
+            Outcome::Done(Record::Closed(train)) => write!(f, "closed {train}"),
+            Outcome::Done(Record::Sold(ticket, party)) => write!(f, "ticket {ticket} {party}"),
+            Outcome::Done(Record::Undone(ticket)) => write!(f, "undone {ticket}"),
             Outcome::Gave(to, _, Ask(0), party) => write!(f, "gave {to} {}", party.len()),
-            Outcome::Gave(..) => f.write_str("taken"),
-            Outcome::Nothing => f.write_str("passed"),
-            Outcome::Passed(refusal) => write!(f, "passed {refusal}"),
-        }
-    }
-}
-
-// What a record is as an answer.
-#[derive(Clone, Copy, Drop)]
-struct Done(Record);
-
-impl fmt::Display for Done {
-    ghost output = { λ d. Some (record_text d.0) };
-
-    fn fmt<W: fmt::Write>(&self, f: &mut fmt::Formatter<W>) -> fmt::Result {
-        match self.0 {
-            Record::Opened(train) => write!(f, "opened {train}"),
-            Record::Closed(train) => write!(f, "closed {train}"),
-            Record::Sold(ticket, party) => write!(f, "ticket {ticket} {party}"),
-            Record::Undone(ticket) => write!(f, "undone {ticket}"),
-            Record::Given(to, _, _, _) => write!(f, "gave {to} 1"),
-            Record::Taken(..) | Record::Heard(..) | Record::Declined(..) => f.write_str("taken"),
-            Record::Asked(_) => f.write_str("asked"),
+            outcome => write!(f, "{}", Verdict::of(Ok(Reply::Came(outcome)))),
         }
     }
 }

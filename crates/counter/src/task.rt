@@ -1,6 +1,6 @@
 // What a line asks of a station.
 ghost use Rattle.std.specs.Prelude.{◌≡◌};
-ghost use Rattle.counter.specs.Tasks.{demand_of, other_of, task_of};
+ghost use Rattle.counter.specs.Tasks.{demand_of, task_of};
 
 use crate::request::Request;
 use giving::ids::{StationId, Ticket};
@@ -30,13 +30,6 @@ fn demand(wish: Wish) -> Demand
     }
 }
 
-// Another station by its number. One that no station can have is `me`, the one that is asked, which is refused alike.
-fn other(number: u32, me: StationId) -> StationId
-    ensures { result ≡ other_of me number }
-{
-    u8::try_from(number).map_or(me, StationId)
-}
-
 impl Task {
     // What a line asks of station `me`.
     pub fn of(deed: Deed, me: StationId) -> Task
@@ -44,11 +37,14 @@ impl Task {
     {
         match deed {
             Deed::Open(opening) => Task::Open(opening),
-            Deed::Lost { other: who } => Task::Lost(other(who, me)),
+            Deed::Lost { other: who } => Task::Lost(StationId::other(who, me)),
             Deed::Close { train } => Task::Request(Request::Close(Train(train))),
             Deed::Sell(wish) => Task::Request(Request::Sell(demand(wish))),
             Deed::Undo { ticket } => Task::Request(Request::Undo(Ticket(ticket))),
-            Deed::Give { to, wish } => Task::Request(Request::Give(other(to, me), demand(wish))),
+            Deed::Give { to, wish } => Task::Request(Request::Give(
+                StationId::other(to, me),
+                demand(wish),
+            )),
             Deed::Ask(wish) => Task::Request(Request::Ask(demand(wish))),
             Deed::Tick => Task::Request(Request::Tick),
         }

@@ -1,9 +1,10 @@
 -- Readers that more bytes behind do not sway.
 use Rattle.std.proofs.Common.{◌≡◌, ℕ, ◌*◌, ◌<◌, ◌≤◌, Bool, true, false, cond, eqb, ltb, List, [], ◌∷◌, ◌++◌, length, take, drop, Result, Ok, Err, refl, ap, subst, arith}
-use Rattle.files.specs.Reading.{◌>>=◌, Reader, as_asked, as_closed, as_declined, as_given, as_heard, as_opened, as_sold, as_taken, as_undone, byte, checked, first, front, made, number, of_kind, party, people, piece, piece_from, pieces, then}
-use Rattle.files.specs.declared.fault.Fault.{Fault}
-use Rattle.files.specs.declared.fault.Fault.TheVariants.{Cut, Bad}
-use Rattle.files.proofs.Layouts.{bound, ok_is}
+use Rattle.files.specs.Reading.{as_asked, as_closed, as_declined, as_given, as_heard, as_opened, as_sold, as_taken, as_undone, first, of_kind, party, people, pieces}
+use Rattle.lines.specs.Fields.{◌>>=◌, Reader, byte, checked, front, made, number, piece, piece_from, then}
+use Rattle.lines.specs.declared.fault.Fault.{Fault}
+use Rattle.lines.specs.declared.fault.Fault.TheVariants.{Cut, Bad}
+use Rattle.lines.proofs.Layouts.{bound, ok_is}
 use Rattle.state.specs.declared.record.Record.{Record}
 use Rattle.std.proofs.lemmas.Bool.{le-ltb, ltb-false}
 use Rattle.std.proofs.lemmas.List.{drop-append-le, length-append, length-drop, take-append-le}

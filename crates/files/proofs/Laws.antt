@@ -1,12 +1,13 @@
 -- What holds of all files.
 use Rattle.std.proofs.Common.{◌≡◌, ℕ, zero, suc, ◌+◌, ◌-◌, ◌<◌, ◌≤◌, List, [], ◌∷◌, ◌++◌, length, take, Result, Ok, Err, refl, sym, ap, subst, ◌∙◌, append_assoc, arith, inl, inr}
-use Rattle.files.specs.Bytes.{AllSound, AreBytes, journal_bytes, record_bytes}
+use Rattle.files.specs.Bytes.{AllSound, journal_bytes, record_bytes}
+use Rattle.lines.specs.Bytes.{AreBytes}
 use Rattle.files.specs.Laws.{Apart, CutAnywhere, InParts, Longest, OneReading}
 use Rattle.files.specs.Reading.{first, records_of}
-use Rattle.files.specs.declared.fault.Fault.{Fault}
-use Rattle.files.specs.declared.fault.Fault.TheVariants.{Cut}
+use Rattle.lines.specs.declared.fault.Fault.{Fault}
+use Rattle.lines.specs.declared.fault.Fault.TheVariants.{Cut}
 use Rattle.files.proofs.Firm.{still_read}
-use Rattle.files.proofs.Layouts.{bytes_behind, ok_is, take_both}
+use Rattle.lines.proofs.Layouts.{bytes_behind, ok_is, take_both}
 use Rattle.files.proofs.Parts.{Parts, no_more, one_more, only_parts, parts, record_parts}
 use Rattle.files.proofs.Records.{again, back, short}
 use Rattle.state.specs.declared.record.Record.{Record}

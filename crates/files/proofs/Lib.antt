@@ -1,7 +1,5 @@
 pub mod Seating
 pub mod Lengths
-pub mod Layouts
-pub mod Numbers
 pub mod Pieces
 pub mod Tickets
 pub mod Records

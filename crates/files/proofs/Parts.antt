@@ -3,8 +3,8 @@ use Rattle.std.proofs.Common.{◌≡◌, ℕ, zero, suc, ◌<◌, ◌≤◌, Bor
 use Rattle.std.specs.Prelude.{IfOk, MatchResult}
 use Rattle.files.specs.Bytes.{Sound, record_bytes}
 use Rattle.files.specs.Reading.{first, records_in, records_of, rest_in, rest_of}
-use Rattle.files.specs.declared.fault.Fault.{Fault}
-use Rattle.files.specs.declared.fault.Fault.TheVariants.{Cut}
+use Rattle.lines.specs.declared.fault.Fault.{Fault}
+use Rattle.lines.specs.declared.fault.Fault.TheVariants.{Cut}
 use Rattle.files.proofs.Firm.{less_left}
 use Rattle.files.proofs.Records.{again}
 use Rattle.state.specs.declared.record.Record.{Record}

@@ -1,9 +1,10 @@
 -- A place in a file that was reached record by record.
 use Rattle.std.proofs.Common.{◌≡◌, ℕ, ◌-◌, ◌<◌, ◌≤◌, List, [], ◌∷◌, ◌++◌, length, take, Ok, Err, sym, ap, subst, ◌∙◌, append_assoc, arith}
-use Rattle.files.specs.Bytes.{AreBytes, journal_bytes}
+use Rattle.files.specs.Bytes.{journal_bytes}
+use Rattle.lines.specs.Bytes.{AreBytes}
 use Rattle.files.specs.Laws.{IsFirstPart}
 use Rattle.files.specs.Reading.{first, records_of}
-use Rattle.files.specs.declared.fault.Fault.{Fault}
+use Rattle.lines.specs.declared.fault.Fault.{Fault}
 use Rattle.files.proofs.Laws.{longest}
 use Rattle.files.proofs.Parts.{Parts, no_more, one_more, only_parts}
 use Rattle.state.specs.declared.record.Record.{Record}

@@ -2,8 +2,9 @@
 use Rattle.std.proofs.Common.{◌≡◌, ℕ, suc, ◌+◌, ◌-◌, ◌/◌, ◌<◌, List, [], ◌∷◌, ◌++◌, length, Result, Ok, Err, refl, sym, ap, ◌∙◌, append_assoc, arith}
 use Rattle.choosing.specs.Parties.{party_of}
 use Rattle.choosing.specs.declared.party.Party.{Party}
-use Rattle.files.specs.Reading.{◌>>=◌, party, piece, seat_on, seats}
-use Rattle.files.specs.declared.fault.Fault.{Fault}
+use Rattle.files.specs.Reading.{party, seat_on, seats}
+use Rattle.lines.specs.Fields.{◌>>=◌, piece}
+use Rattle.lines.specs.declared.fault.Fault.{Fault}
 use Rattle.pieces.specs.declared.names.Seat.{Seat}
 use Rattle.pieces.specs.declared.names.Train.{Train}
 use Rattle.pieces.specs.declared.piece.Piece.{Piece}

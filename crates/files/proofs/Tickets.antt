@@ -4,13 +4,16 @@ use Rattle.std.specs.List.{AllByRecursion, flat_map}
 use Rattle.choosing.proofs.Parties.{party_seats}
 use Rattle.choosing.specs.Parties.{party_of, seats_of, some}
 use Rattle.choosing.specs.declared.party.Party.{Party}
-use Rattle.files.specs.Bytes.{AreBytes, SoundParty, seat_bytes}
-use Rattle.files.specs.Reading.{byte, checked, front, party, people, piece, pieces, seats}
-use Rattle.files.specs.declared.fault.Fault.TheVariants.{Bad}
-use Rattle.files.proofs.Layouts.{Layout, bound, bytes_behind, checked_layout, done, ok_is, then_layout}
+use Rattle.files.specs.Bytes.{SoundParty, seat_bytes}
+use Rattle.lines.specs.Bytes.{AreBytes}
+use Rattle.files.specs.Reading.{party, people, pieces, seats}
+use Rattle.lines.specs.Fields.{byte, checked, front, piece}
+use Rattle.lines.specs.declared.fault.Fault.TheVariants.{Bad}
+use Rattle.lines.proofs.Layouts.{Layout, bound, bytes_behind, checked_layout, done, ok_is, then_layout}
 use Rattle.files.proofs.Lengths.{length-seats}
-use Rattle.files.proofs.Numbers.{byte_layout, front_layout}
-use Rattle.files.proofs.Pieces.{piece_layout, seats_layout}
+use Rattle.lines.proofs.Numbers.{byte_layout, front_layout}
+use Rattle.files.proofs.Pieces.{seats_layout}
+use Rattle.lines.proofs.Pieces.{piece_layout}
 use Rattle.pieces.specs.Parts.{piece_of}
 use Rattle.pieces.specs.declared.names.Seat.{Seat}
 use Rattle.pieces.specs.declared.piece.Piece.{Piece}

@@ -1,37 +1,19 @@
 -- Records as bytes: the highest byte of a number first, and nothing between records.
-use Rattle.std.specs.Prelude.{◌≡◌, ℕ, ◌<◌, ◌≤◌, ◌^◌, List, [], ◌∷◌, ◌++◌, length, slice_index}
-use Rattle.std.specs.Int.{w16, w32, to_be_bytes}
+use Rattle.std.specs.Prelude.{◌≡◌, ℕ, ◌<◌, ◌≤◌, ◌^◌, List, ◌∷◌, ◌++◌, length}
 use Rattle.std.specs.List.{AllByRecursion, flat_map}
 use Rattle.choosing.specs.Parties.{party_of, seats_of}
 use Rattle.choosing.specs.declared.party.Party.{Party}
-use Rattle.giving.specs.declared.ids.Number.{Number}
+use Rattle.lines.specs.Bytes.{SoundPiece, long, piece_bytes}
 use Rattle.pieces.specs.Parts.{piece_of}
 use Rattle.pieces.specs.declared.names.Seat.{Seat}
 use Rattle.pieces.specs.declared.names.Train.{Train}
-use Rattle.pieces.specs.declared.piece.Piece.{Piece}
 use Rattle.pieces.specs.declared.trip.Trip.{Trip}
 use Rattle.state.specs.declared.record.Record.{Record}
 use Rattle.state.specs.declared.record.Record.TheVariants.{Opened, Closed, Sold, Undone, Given, Taken, Heard, Asked, Declined}
 
--- each is a byte
-abbrev pub AreBytes : List ℕ → Type 0
-AreBytes bs = (i : ℕ) → slice_index bs i < 256
-
--- a number of four bytes
-abbrev pub long : ℕ → List ℕ
-long = to_be_bytes w32
-
--- its train, its seat, and from where to where
-abbrev pub piece_bytes : Piece → List ℕ
-piece_bytes p = long p.train.0 ++ (to_be_bytes w16 p.seat.0 ++ p.trip.from.0 ∷ p.trip.to.0 ∷ [])
-
 -- the piece of one of a party
 abbrev pub seat_bytes : Train → Trip → Seat → List ℕ
 seat_bytes z t s = piece_bytes (piece_of z s t)
-
--- the message by which a piece is given
-abbrev pub given_bytes : Number → Piece → List ℕ
-given_bytes n p = 1 ∷ (long n.0 ++ piece_bytes p)
 
 -- a record: its kind, and what it says
 abbrev pub record_bytes : Record → List ℕ
@@ -50,9 +32,6 @@ abbrev pub journal_bytes : List Record → List ℕ
 journal_bytes es = flat_map record_bytes es
 
 -- ---- what can be written: each number fits its width
-
-abbrev pub SoundPiece : Piece → Type 0
-SoundPiece p = (p.train.0 < 2 ^ 32) × (p.seat.0 < 2 ^ 16)
 
 -- somebody is in it, and it has nothing but its train, its trip and its seats
 abbrev pub SoundParty : Party → Type 0

@@ -1,8 +1,9 @@
 -- What holds of all records and all bytes.
 use Rattle.std.specs.Prelude.{◌≡◌, ℕ, ◌≤◌, true, List, ◌++◌, length, take, Ok, Err}
-use Rattle.files.specs.Bytes.{AllSound, AreBytes, Sound, journal_bytes, record_bytes}
-use Rattle.files.specs.declared.fault.Fault.TheVariants.{Bad}
+use Rattle.files.specs.Bytes.{AllSound, Sound, journal_bytes, record_bytes}
 use Rattle.files.specs.Reading.{first, is_cut, records_of, rest_of}
+use Rattle.lines.specs.Bytes.{AreBytes}
+use Rattle.lines.specs.declared.fault.Fault.TheVariants.{Bad}
 use Rattle.state.specs.declared.record.Record.{Record}
 
 -- ---- one record

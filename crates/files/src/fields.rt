@@ -1,57 +1,13 @@
-// What records are made of, read from the front of some bytes: each with the bytes behind it.
-ghost use Rattle.std.specs.Prelude.{◌≡◌, ◌≤◌, ◌<◌, Ok, Err, MatchResult, OnOk, IfOk, length};
-ghost use Rattle.std.specs.Int.{w16, w32};
-ghost use Rattle.files.specs.Reading.{Reads, byte as byte_in, front as front_in, number as number_in, party as party_in, piece as piece_in, pieces as pieces_in, seat_on as seat_in};
+// The pieces of a ticket, read from the front of some bytes: with the bytes behind them.
+ghost use Rattle.std.specs.Prelude.{◌≡◌, ◌≤◌, Ok, Err, MatchResult, IfOk, length};
+ghost use Rattle.files.specs.Reading.{party as party_in, pieces as pieces_in, seat_on as seat_in};
 
-use crate::fault::Fault;
 use choosing::party::Party;
-use pieces::names::{Seat, Stop, Train};
+use lines::fault::Fault;
+use lines::fields::{byte, front, piece};
+use pieces::names::{Seat, Train};
 use pieces::piece::Piece;
 use pieces::trip::Trip;
-
-pub fn byte(bytes: &[u8]) -> Result<(u8, &[u8]), Fault>
-    ensures { Reads result (byte_in bytes.now) }
-{
-    let [byte, rest @ ..] = bytes else {
-        return Err(Fault::Cut);
-    };
-    Ok((*byte, rest))
-}
-
-fn front(count: usize, bytes: &[u8]) -> Result<(&[u8], &[u8]), Fault>
-    ensures { MatchResult result (λ r. front_in count bytes.now ≡ Ok (r.0.now, r.1.now)) (λ f. front_in count bytes.now ≡ Err f) }
-{
-    if bytes.len() < count {
-        return Err(Fault::Cut);
-    }
-    Ok(bytes.split_at(count))
-}
-
-fn short(bytes: &[u8]) -> Result<(u16, &[u8]), Fault>
-    ensures { Reads result (number_in w16 bytes.now) }
-{
-    let (number, rest) = front(2, bytes)?;
-    Ok((u16::from_be_bytes([number[0], number[1]]), rest))
-}
-
-pub fn word(bytes: &[u8]) -> Result<(u32, &[u8]), Fault>
-    ensures { Reads result (number_in w32 bytes.now) }
-{
-    let (number, rest) = front(4, bytes)?;
-    let number = u32::from_be_bytes([number[0], number[1], number[2], number[3]]);
-    Ok((number, rest))
-}
-
-pub fn piece(bytes: &[u8]) -> Result<(Piece, &[u8]), Fault>
-    ensures { Reads result (piece_in bytes.now) }
-{
-    let (train, rest) = word(bytes)?;
-    let (seat, rest) = short(rest)?;
-    let (from, rest) = byte(rest)?;
-    let (to, rest) = byte(rest)?;
-    let trip = Trip::new(Stop(from), Stop(to)).ok_or(Fault::Bad)?;
-    Ok((Piece::new(Train(train), Seat(seat), trip), rest))
-}
 
 // The pieces of a ticket, as the part of the bytes that they stand in.
 pub fn pieces(bytes: &[u8]) -> Result<(&[u8], &[u8]), Fault>

@@ -3,7 +3,6 @@
 
 ghost use Rattle.files.specs.Laws.{Apart, BadStays, CutAnywhere, InParts, Longest, OneReading, ReadsBack};
 
-pub mod fault;
 mod fields;
 pub mod reading;
 #[cfg(test)]

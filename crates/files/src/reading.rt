@@ -1,10 +1,12 @@
 // Records read from the front of some bytes.
-ghost use Rattle.std.specs.Prelude.{◌≡◌, ◌<◌, ◌≤◌, Ok, Err, MatchResult, OnOk, IfOk, length};
-ghost use Rattle.files.specs.Reading.{Reads, first, declined as declined_in, given as given_in, heard as heard_in, sold as sold_in, taken as taken_in, of_kind as kind_in};
+ghost use Rattle.std.specs.Prelude.{◌<◌, IfOk, length};
+ghost use Rattle.files.specs.Reading.{first, declined as declined_in, given as given_in, heard as heard_in, sold as sold_in, taken as taken_in, of_kind as kind_in};
+ghost use Rattle.lines.specs.Fields.{Reads};
 
-use crate::fault::Fault;
-use crate::fields::{byte, party, piece, pieces, word};
+use crate::fields::{party, pieces};
 use giving::ids::{Ask, Number, StationId, Ticket};
+use lines::fault::Fault;
+use lines::fields::{byte, piece, word};
 use pieces::names::Train;
 use state::record::Record;
 

@@ -1,8 +1,8 @@
-use crate::fault::Fault;
 use crate::reading::read;
 use crate::whole::{is_cut, whole};
 use crate::writing::{write, write_taken};
 use giving::ids::{StationId, Ticket};
+use lines::fault::Fault;
 use pieces::names::Seat;
 use state::record::Record;
 use std::test::Fail;

@@ -3,8 +3,8 @@ ghost use Rattle.std.specs.Prelude.{◌≡◌};
 ghost use Rattle.files.specs.Laws.{IsFirstPart};
 ghost use Rattle.files.specs.Reading.{is_cut as cut_in};
 
-use crate::fault::Fault;
 use crate::reading::read;
+use lines::fault::Fault;
 
 // The longest front of a file that is whole records, as a part of the file.
 pub fn whole(file: &[u8]) -> &[u8]

@@ -1,13 +1,14 @@
 // Records written behind the bytes of a buffer that has room for them.
 ghost use Rattle.std.specs.Prelude.{◌≡◌, ◌+◌, ◌*◌, ◌≤◌, ◌∷◌, ◌++◌, length, drop, vec_len, vec_capacity};
-ghost use Rattle.std.specs.Int.{w32, to_be_bytes};
 ghost use Rattle.std.specs.List.{flat_map};
 ghost use Rattle.choosing.specs.Parties.{seats_of};
 ghost use Rattle.state.specs.declared.record.Record.TheVariants.{Given, Sold};
-ghost use Rattle.files.specs.Bytes.{given_bytes, journal_bytes, long, piece_bytes as bytes_of_piece, record_bytes, seat_bytes};
+ghost use Rattle.files.specs.Bytes.{journal_bytes, record_bytes, seat_bytes};
+ghost use Rattle.lines.specs.Bytes.{long};
 
 use choosing::party::Party;
 use giving::ids::{Ask, Number, StationId, Ticket};
+use lines::writing::{given, piece_bytes};
 use pieces::piece::Piece;
 use state::record::Record;
 
@@ -18,24 +19,6 @@ fn put(out: &mut Vec<u8>, bytes: &[u8])
     ensures capacity { vec_capacity out.old ≤ vec_capacity out.new }
 {
     out.extend_from_slice(bytes).unwrap();
-}
-
-fn piece_bytes(piece: Piece) -> [u8; 8]
-    ensures { result ≡ bytes_of_piece piece }
-{
-    let [a, b, c, d] = piece.train.0.to_be_bytes();
-    let [e, f] = piece.seat.0.to_be_bytes();
-    [a, b, c, d, e, f, piece.trip.from.0, piece.trip.to.0]
-}
-
-// The message by which a piece is given.
-pub fn given_message(number: Number, piece: Piece) -> [u8; 13]
-    ensures { result ≡ given_bytes number piece }
-{
-    let mut message = [1; 13];
-    message[1..5].copy_from_slice(&number.0.to_be_bytes());
-    message[5..13].copy_from_slice(&piece_bytes(piece));
-    message
 }
 
 // The record that a piece is taken, from the message that gave it.
@@ -119,7 +102,7 @@ pub fn write(out: &mut Vec<u8>, entry: Record)
         Record::Undone(ticket) => write_word(out, 7, ticket.0),
         Record::Given(to, number, ask, piece) => write_given(out, to, number, ask, piece),
         Record::Taken(from, number, piece) => {
-            write_taken(out, from, &given_message(number, piece));
+            write_taken(out, from, &given(number, piece));
         }
         Record::Opened(train) => write_word(out, 10, train.0),
         Record::Closed(train) => write_word(out, 11, train.0),

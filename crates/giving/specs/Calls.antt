@@ -38,7 +38,7 @@ after_decline me cs k a = cond (other me cs k) (slice_set cs k (declined (line c
 
 -- station k has taken all up to number n
 abbrev pub hears : ℕ → List Chan → ℕ → ℕ → Result Bool Refusal
-hears me cs k n = unless (other me cs k) NoSuchStation (unless (nat_le n (line cs k).given) Malformed (Ok (news (line cs k) n)))
+hears me cs k n = unless (nat_le n (line cs k).given) Malformed (unless (other me cs k) NoSuchStation (Ok (news (line cs k) n)))
 
 abbrev pub after_hear : ℕ → List Chan → ℕ → ℕ → List Chan
 after_hear me cs k n = cond (other me cs k && news (line cs k) n) (slice_set cs k (heard_to (line cs k) n)) cs

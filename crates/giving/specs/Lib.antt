@@ -3,3 +3,4 @@ pub mod Channels
 pub mod Posts
 pub mod Receipts
 pub mod Calls
+pub mod Others

@@ -1,11 +1,21 @@
 // Numbers that are kept apart.
 ghost use Rattle.std.specs.Prelude.{◌≡◌, ◌+◌, nat_lt, if◌then◌else◌, Some, None, decimal};
+ghost use Rattle.giving.specs.Others.{other_of};
 
 use std::fmt;
 
 // A station, from 0.
 #[derive(Clone, Copy, Debug, PartialEq, Eq, Drop)]
 pub struct StationId(pub u8);
+
+impl StationId {
+    // Another station by its number. One that no station can have is `me`, the one that is asked, which is refused alike.
+    pub fn other(number: u32, me: StationId) -> StationId
+        ensures { result ≡ other_of me number }
+    {
+        u8::try_from(number).map_or(me, StationId)
+    }
+}
 
 impl fmt::Display for StationId {
     ghost output = { λ k. Some (decimal k.0) };

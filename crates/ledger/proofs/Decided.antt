@@ -266,8 +266,8 @@ module _ (tb : Table) (s : State) where
       cond_by P (λ _. tt) (known s p.train || openable s) (Ok (Done (Taken from n p))) (Ok (Passed Full)) (λ k. (refl, and_from _ _ l (and_from _ _ a (and_from _ _ b k)))) tt)))
   sound (Hear from n) =
       let P = Sound tb s (Hear from n) in
-      unless_by P (λ _. tt) (other s.me s.channels from.0) NoSuchStation _ (λ a.
       unless_by P (λ _. tt) (leb n.0 (line s.channels from.0).given) Malformed _ (λ b.
+      unless_by P (λ _. tt) (other s.me s.channels from.0) NoSuchStation _ (λ a.
       cond_by P (λ _. tt) (news (line s.channels from.0) n.0) (Ok (Done (Heard from n))) (Ok Nothing) (λ k. (refl, and_from _ _ a k)) tt))
   sound (input.Ask d) =
       let P = Sound tb s (input.Ask d) in

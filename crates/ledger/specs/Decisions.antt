@@ -129,8 +129,8 @@ decided tb s (Take from n p) =
     (turned (stands (line s.channels from.0) n.0)
     (cond (known s p.train || openable s) (Ok (Done (Taken from n p))) (Ok (Passed Full)))))
 decided tb s (Hear from n) =
-    unless (other s.me s.channels from.0) NoSuchStation
-    (unless (nat_le n.0 (line s.channels from.0).given) Malformed
+    unless (nat_le n.0 (line s.channels from.0).given) Malformed
+    (unless (other s.me s.channels from.0) NoSuchStation
     (cond (news (line s.channels from.0) n.0) (Ok (Done (Heard from n))) (Ok Nothing)))
 decided tb s (input.Ask d) = met (judged tb s d) (λ r t. asking s)
 decided tb s (Grant from a d) = heeded (judged tb s d) (answering s from a d)

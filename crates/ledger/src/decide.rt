@@ -206,11 +206,11 @@ fn decide_hear(
     ensures { result ≡ decided (rows_of table.now) (view station.now) (Hear from number) }
 {
     let channels = station.channels();
-    if !channels.is_other(from) {
-        return Err(Refusal::NoSuchStation);
-    }
     if !channels.was_given(from, number) {
         return Err(Refusal::Malformed);
+    }
+    if !channels.is_other(from) {
+        return Err(Refusal::NoSuchStation);
     }
     if !channels.is_news(from, number) {
         return Ok(Outcome::Nothing);

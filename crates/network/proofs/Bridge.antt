@@ -1,6 +1,6 @@
 -- What a station decides and says is a run of moves.
 -- Assumes nothing.
-use Rattle.std.proofs.Common.{◌≡◌, ℕ, zero, suc, ◌+◌, ◌<◌, ◌≤◌, Bool, true, false, cond, eqb, leb, ◌⊎◌, List, [], ◌∷◌, ◌++◌, map, length, get_or, set, Some, None, fold, Option, sym, refl, ap, ◌∙◌, subst, inl, inr, append_assoc, append-nil, arith, length-append, length-drop, length-set, get_or-set_same, Ok, Err}
+use Rattle.std.proofs.Common.{◌≡◌, ℕ, zero, suc, ◌+◌, ◌<◌, ◌≤◌, Bool, true, false, cond, ◌&&◌, ◌||◌, not, eqb, leb, ◌⊎◌, List, [], ◌∷◌, ◌++◌, map, length, get_or, set, Some, None, fold, Option, sym, refl, ap, ◌∙◌, subst, inl, inr, append_assoc, append-nil, arith, length-append, length-drop, length-set, get_or-set_same, Ok, Err}
 use Rattle.std.proofs.lemmas.List.{set-get_or, set-set, get_or_at, length-map}
 use mathlib.Core.List.{Memᴰ}
 use Rattle.asking.specs.Events.{Response, resolved, turned, under_way}
@@ -13,7 +13,7 @@ use Rattle.asking.proofs.Asks.{asks_is}
 use Rattle.asking.proofs.Listed.{Listed, trains_each}
 use Rattle.asking.proofs.OrderRises.{each_by}
 use Rattle.asking.specs.declared.event.Event.{Event}
-use Rattle.asking.specs.declared.event.Event.TheVariants.{Call, Answered, Told, Tick}
+use Rattle.asking.specs.declared.event.Event.TheVariants.{Call, Answered, Told, Tick, Garbled}
 use Rattle.asking.specs.declared.event.Reply.TheVariants.{Came, Noted, Ticked}
 use Rattle.choosing.specs.Parties.{pieces_of, seats_of}
 use Rattle.choosing.specs.declared.party.Party.{Party}
@@ -62,7 +62,7 @@ use Rattle.timetable.specs.declared.row.Row.{Row}
 -- ---- lists of which each element has something
 
 module _ {X : Type 0} (P : X → Type 0) where
-  all_append : (xs ys : List X) → AllByRecursion P xs → AllByRecursion P ys → AllByRecursion P (xs ++ ys)
+  pub all_append : (xs ys : List X) → AllByRecursion P xs → AllByRecursion P ys → AllByRecursion P (xs ++ ys)
   all_append [] ys h g = g
   all_append (x ∷ xs) ys h g = (h.0, all_append xs ys h.1 g)
 
@@ -70,24 +70,24 @@ module _ {X : Type 0} (P : X → Type 0) where
   all_front [] ys h = tt
   all_front (x ∷ xs) ys h = (h.0, all_front xs ys h.1)
 
-  all_cond : (b : Bool) (x : X) → P x → AllByRecursion P (cond b (x ∷ []) [])
+  pub all_cond : (b : Bool) (x : X) → P x → AllByRecursion P (cond b (x ∷ []) [])
   all_cond true x h = (h, tt)
   all_cond false x h = tt
 
   module _ {Y : Type 0} (Q : Y → Type 0) where
-    all_mapped : (f : Y → X) (ys : List Y) → ((y : Y) → Q y → P (f y)) → AllByRecursion Q ys → AllByRecursion P (map f ys)
+    pub all_mapped : (f : Y → X) (ys : List Y) → ((y : Y) → Q y → P (f y)) → AllByRecursion Q ys → AllByRecursion P (map f ys)
     all_mapped f [] h g = tt
     all_mapped f (y ∷ ys) h g = (h y g.0, all_mapped f ys h g.1)
 
-    all_flat : (f : Y → List X) (ys : List Y) → ((y : Y) → Q y → AllByRecursion P (f y)) → AllByRecursion Q ys → AllByRecursion P (flat_map f ys)
+    pub all_flat : (f : Y → List X) (ys : List Y) → ((y : Y) → Q y → AllByRecursion P (f y)) → AllByRecursion Q ys → AllByRecursion P (flat_map f ys)
     all_flat f [] h g = tt
     all_flat f (y ∷ ys) h g = all_append (f y) (flat_map f ys) (h y g.0) (all_flat f ys h g.1)
 
-any_all : {X : Type 0} (xs : List X) → AllByRecursion (λ _. Unit {0}) xs
+pub any_all : {X : Type 0} (xs : List X) → AllByRecursion (λ _. Unit {0}) xs
 any_all [] = tt
 any_all (x ∷ xs) = (tt, any_all xs)
 
-ranged : (a n b : ℕ) → a + n ≤ b → AllByRecursion (λ k. k < b) (range_with_len a n)
+pub ranged : (a n b : ℕ) → a + n ≤ b → AllByRecursion (λ k. k < b) (range_with_len a n)
 ranged a zero b h = tt
 ranged a (suc n) b h = (omega arith, ranged (a + 1) n b (omega arith))
 
@@ -457,16 +457,17 @@ module _ (n : ℕ) (tb : Table) (s : Site) (reached : Reached n tb s) (i : ℕ) 
   refuses m (Answered from a k) r = silent
   refuses m (Told from t y) r = silent
   refuses m Tick r = silent
+  refuses m Garbled r = silent
 
   happens : (m : Mind) (e : Event) → HeedsAll w.said i e → Goes m e (resolved tb now m e)
   happens m (Call x) h = calls m x (decided tb now x) refl h
   happens m (Answered from a k) h =
       let P = λ (r : Response). Goes m (Answered from a k) r in
       let R = refuses m (Answered from a k) in
-      unless_by P R (leb k 8) Malformed _ (λ _.
+      unless_by P R (leb k 8 && (not (under_way now m from a) || leb k (wanted m.inquiry))) Malformed _ (λ _.
       unless_by P R (other now.me now.channels from.0) NoSuchStation _ (λ _.
-      cond_by P R (under_way now m from a) (unless (leb k (wanted m.inquiry)) Malformed (Ok Noted)) (Ok (Came Nothing))
-      (λ _. unless_by P R (leb k (wanted m.inquiry)) Malformed (Ok Noted) (λ _. speaks (query now (advanced m.inquiry k)) (queried n tb i (journal w i ++ []) now (then_is []) now_me (advanced m.inquiry k))))
+      cond_by P R (under_way now m from a) (Ok Noted) (Ok (Came Nothing))
+      (λ _. speaks (query now (advanced m.inquiry k)) (queried n tb i (journal w i ++ []) now (then_is []) now_me (advanced m.inquiry k)))
       silent))
   happens m (Told from t y) h =
       let P = λ (r : Response). Goes m (Told from t y) r in
@@ -475,6 +476,7 @@ module _ (n : ℕ) (tb : Table) (s : Site) (reached : Reached n tb s) (i : ℕ) 
       unless_by P R (other now.me now.channels from.0) NoSuchStation _ (λ _.
       cond_by P R (is_open now t) (Ok Noted) (Ok (Came Nothing)) (λ _. silent) silent))
   happens m Tick h = speaks _ (ticks n tb i (journal w i ++ []) now (then_is []) now_me (minded now m Tick (Ok Ticked)).ticks)
+  happens m Garbled h = silent
 
   -- want of memory included
   pub happens_any : (m : Mind) (e : Event) (r : Response) → HeedsAll w.said i e → (for_memory r ≡ false → r ≡ resolved tb now m e) → Goes m e r

@@ -54,7 +54,7 @@ real_forgotten : (tb : Table) (z : Train) (y : Option Party) → Real tb y → R
 real_forgotten tb z None h = tt
 real_forgotten tb z (Some p) h = cond_both (eqb z.0 p.train.0) None (Some p) (Real tb) (λ _. tt) (λ _. h)
 
-real_next : (tb : Table) (x : State) (e : Record) → fits tb x e ≡ true → All (Real tb) x.tickets → All (Real tb) (apply tb x e).tickets
+pub real_next : (tb : Table) (x : State) (e : Record) → fits tb x e ≡ true → All (Real tb) x.tickets → All (Real tb) (apply tb x e).tickets
 real_next tb x (Opened t) f h = rw (opened_beside (tb t.0) t x).tickets h
 real_next tb x (Closed t) f h = All-drop (Real tb) _ (map (forgotten t) x.tickets) (All-map (Real tb) (forgotten t) x.tickets (All-weaker (Real tb) (λ y. Real tb (forgotten t y)) (real_forgotten tb t) x.tickets h))
 real_next tb x (Sold n p) f h = let g = fits_sold tb x n p f in All-push (Real tb) x.tickets (Some p) h (g.people, g.listed)
@@ -78,7 +78,7 @@ away_next : (tb : Table) (x : State) (e : Record) → fits tb x e ≡ true → g
 away_next tb x (Given to n a p) f = rw (ne_eqb x.me to.0 (fits_given tb x to n a p f).away) refl
 away_next tb x e f = refl
 
-sent_next : (tb : Table) (x : State) (e : Record) (k : ℕ) → fits tb x e ≡ true → All (Lists tb) (given_of k e)
+pub sent_next : (tb : Table) (x : State) (e : Record) (k : ℕ) → fits tb x e ≡ true → All (Lists tb) (given_of k e)
 sent_next tb x (Given to n a p) k f = cond_both (eqb k to.0) (p ∷ []) [] (All (Lists tb)) (λ _. All-cons (Lists tb) p [] (fits_given tb x to n a p f).listed (All-nil (Lists tb))) (λ _. All-nil (Lists tb))
 sent_next tb x e k f = All-nil (Lists tb)
 

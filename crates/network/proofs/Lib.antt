@@ -27,3 +27,4 @@ pub mod Bridge
 pub mod Tallies
 pub mod Gave
 pub mod Lost
+pub mod Promised

@@ -4,4 +4,5 @@ pub mod Places
 pub mod Answers
 pub mod Promises
 pub mod Lost
+pub mod Promised
 pub mod Runs

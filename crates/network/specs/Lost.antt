@@ -21,7 +21,10 @@ pub data Had (n : ℕ) (tb : Table) (w : World) (j : ℕ) (t : Train) : Type 0 w
 
 -- Every train of which a station had any, and that no other one has closed, is on the list of one of the others at least: of that list the contract
 -- of `lost_trains` says that it has just the trains that are `missing`. A station's number is a byte.
-abbrev pub LostListed : Type 0
-LostListed = (n : ℕ) (tb : Table) (w : World) → Reach n tb w → (j : StationId) → j.0 < n → j.0 < 256 → 1 < n → (t : Train) →
+abbrev pub LostListedIn : ℕ → Table → World → Type 0
+LostListedIn n tb w = (j : StationId) → j.0 < n → j.0 < 256 → 1 < n → (t : Train) →
     ((k : ℕ) → k < n → k ≢ j.0 → was_closed (state n tb w k) t ≡ false) → Had n tb w j.0 t →
     (i : ℕ) × (i < n) × (i ≢ j.0) × (missing (tb t.0) (state n tb w i) j t ≡ true)
+
+abbrev pub LostListed : Type 0
+LostListed = (n : ℕ) (tb : Table) (w : World) → Reach n tb w → LostListedIn n tb w

@@ -3,6 +3,7 @@
 
 ghost use Rattle.network.specs.Promises.{OnePlace, NeverTwice, NumbersRise, OnlyWhatIs, SellsAlone, Sells, Gives, Undoes, AsksFirst, Grants, Keeps, KeepsNone, AnswersOnce, AnswersTrue, AsksRise, TellsTrue, Arrives, Remembers, Grows};
 ghost use Rattle.network.specs.Lost.{LostListed};
+ghost use Rattle.network.specs.Promised.{Everywhere};
 ghost use Rattle.network.specs.Runs.{Runs};
 
 pub mod place;
@@ -100,6 +101,11 @@ pub fn remembers_stands()
 // A train of a station that lost its file is on the list of another one.
 pub fn lost_listed_stands()
     ensures { LostListed }
+{}
+
+// All this is so of every site that is reached.
+pub fn promises_stand()
+    ensures { Everywhere }
 {}
 
 // Trains may be added to the timetable at any time.

@@ -38,7 +38,7 @@ fit_front tb s xs ys h = (and_parts (all_fit tb s xs) (all_fit tb (fold (apply t
 
 -- ---- a timetable with more trains
 
-grown : (tb ub : Table) → Extends tb ub → (s : State) (es : List Record) → all_fit tb s es ≡ true → (all_fit ub s es ≡ true) × (fold (apply tb) s es ≡ fold (apply ub) s es)
+pub grown : (tb ub : Table) → Extends tb ub → (s : State) (es : List Record) → all_fit tb s es ≡ true → (all_fit ub s es ≡ true) × (fold (apply tb) s es ≡ fold (apply ub) s es)
 grown tb ub ext s [] h = (refl, refl)
 grown tb ub ext s (e ∷ es) h =
     let (f, g) = and_parts (fits tb s e) (all_fit tb (apply tb s e) es) h in
@@ -46,7 +46,7 @@ grown tb ub ext s (e ∷ es) h =
     let same = apply_more tb ub ext s e f in
     (and_from _ _ (fits_more tb ub ext s e f) (subst (λ x. all_fit ub x es ≡ true) same a), b ∙ ap (λ x. fold (apply ub) x es) same)
 
-listing_extends : (tb : Table) (s : State) (r : Row) (o : Answer) → decided_open tb s r ≡ o → Extends tb (listing tb r o)
+pub listing_extends : (tb : Table) (s : State) (r : Row) (o : Answer) → decided_open tb s r ≡ o → Extends tb (listing tb r o)
 listing_extends tb s r (Ok (Done e)) h = put_extends tb r (opens_admitted tb s r e h)
 listing_extends tb s r o h = λ k q e. e
 

@@ -3,3 +3,4 @@ pub mod Journals
 pub mod Rises
 pub mod Sizes
 pub mod Redone
+pub mod Alone

@@ -1,13 +1,13 @@
 -- What a station writes has bytes: each of its numbers fits.
 -- Assumes nothing.
-use Rattle.std.proofs.Common.{◌≡◌, ℕ, suc, ◌+◌, ◌<◌, ◌≤◌, ◌^◌, min, Bool, true, false, cond, ◌||◌, not, eqb, ltb, leb, List, [], ◌∷◌, map, length, Some, None, Option, Ok, Err, Result, Less, Equal, Greater, sym, refl, ap, subst, arith}
+use Rattle.std.proofs.Common.{◌≡◌, ℕ, suc, ◌+◌, ◌<◌, ◌≤◌, ◌^◌, min, Bool, true, false, cond, ◌&&◌, ◌||◌, not, eqb, ltb, leb, List, [], ◌∷◌, map, length, Some, None, Option, Ok, Err, Result, Less, Equal, Greater, sym, refl, ap, subst, arith}
 use Rattle.asking.proofs.Asks.{asks_is}
 use Rattle.asking.specs.Events.{Response, resolved, turned, under_way}
 use Rattle.asking.specs.Minds.{Mind, wanted}
 use Rattle.asking.specs.Replies.{written}
 use Rattle.asking.specs.Told.{sensible}
 use Rattle.asking.specs.declared.event.Event.{Event}
-use Rattle.asking.specs.declared.event.Event.TheVariants.{Call, Answered, Told, Tick}
+use Rattle.asking.specs.declared.event.Event.TheVariants.{Call, Answered, Told, Tick, Garbled}
 use Rattle.asking.specs.declared.event.Reply.TheVariants.{Came, Noted}
 use Rattle.choosing.proofs.Groups.{group_most}
 use Rattle.choosing.proofs.Parties.{party_seats}
@@ -60,16 +60,16 @@ module _ (tb : Table) (s : State) (m : Mind) where
     written_by (Call i) h = subst P (sym (written_call i (decided tb s i) refl)) (h i refl)
     written_by (Answered from a n) h =
         let Q = λ (r : Response). P (written s r) in
-        unless_by Q (λ _. none) (leb n 8) Malformed _ (λ _.
+        unless_by Q (λ _. none) (leb n 8 && (not (under_way s m from a) || leb n (wanted m.inquiry))) Malformed _ (λ _.
         unless_by Q (λ _. none) (other s.me s.channels from.0) NoSuchStation _ (λ _.
-        cond_by Q (λ _. none) (under_way s m from a) (unless (leb n (wanted m.inquiry)) Malformed (Ok Noted)) (Ok (Came Nothing))
-        (λ _. unless_by Q (λ _. none) (leb n (wanted m.inquiry)) Malformed (Ok Noted) (λ _. none)) none))
+        cond_by Q (λ _. none) (under_way s m from a) (Ok Noted) (Ok (Came Nothing)) (λ _. none) none))
     written_by (Told from t y) h =
         let Q = λ (r : Response). P (written s r) in
         unless_by Q (λ _. none) (sensible (tb t.0) y) Malformed _ (λ _.
         unless_by Q (λ _. none) (other s.me s.channels from.0) NoSuchStation _ (λ _.
         cond_by Q (λ _. none) (is_open s t) (Ok Noted) (Ok (Came Nothing)) (λ _. none) none))
     written_by Tick h = none
+    written_by Garbled h = none
 
 -- ---- demands
 
@@ -168,8 +168,8 @@ module _ (tb : Table) (s : State) where
       unless_by Fine (λ _ _. tt) (other s.me s.channels from.0) NoSuchStation _ (λ _.
       elim (stands (line s.channels from.0) n.0) as (λ x. Fine (ledger.turned x (cond (known s p.train || openable s) (Ok (Done (Taken from n p))) (Ok (Passed Full))))) [ Less ↦ λ _. tt | Equal ↦ taken | Greater ↦ λ _. tt ]))
   fine (Hear from n) h =
-      unless_by Fine (λ _ _. tt) (other s.me s.channels from.0) NoSuchStation _ (λ _.
       unless_by Fine (λ _ _. tt) (leb n.0 (line s.channels from.0).given) Malformed _ (λ _.
+      unless_by Fine (λ _ _. tt) (other s.me s.channels from.0) NoSuchStation _ (λ _.
       cond_by Fine (λ _ _. tt) (news (line s.channels from.0) n.0) (Ok (Done (Heard from n))) (Ok Nothing) (λ _ _. (h, tt)) (λ _. tt)))
   fine (input.Ask d) h =
       met_few Fine (λ _ _. tt) (tb d.train.0) (trip_from d.from d.to) d.people (is_open s d.train) (λ _ _. ledger.asking s) (λ _ _ _.

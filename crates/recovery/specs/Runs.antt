@@ -4,14 +4,13 @@ use Rattle.asking.specs.Events.{resolved}
 use Rattle.asking.specs.Minds.{Mind}
 use Rattle.asking.specs.Replies.{written}
 use Rattle.asking.specs.declared.event.Event.{Event}
-use Rattle.asking.specs.declared.event.Event.TheVariants.{Call, Answered, Told, Tick}
-use Rattle.files.specs.Bytes.{SoundPiece}
+use Rattle.asking.specs.declared.event.Event.TheVariants.{Call, Answered, Told, Tick, Garbled}
+use Rattle.lines.specs.Bytes.{SoundDemand, SoundPiece}
 use Rattle.ledger.specs.Decisions.{decided_open, listing, records}
 use Rattle.ledger.specs.declared.input.Input.{Input}
 use Rattle.ledger.specs.declared.input.Input.TheVariants.{Close, Sell, Undo, Give, Take, Hear, Grant}
 use Rattle.ledger.specs.declared.input.Input.TheVariants as input
 use Rattle.network.specs.Promises.{Extends}
-use Rattle.pieces.specs.declared.demand.Demand.{Demand}
 use Rattle.state.specs.Changes.{apply}
 use Rattle.state.specs.States.{State, begun}
 use Rattle.state.specs.declared.record.Record.{Record}
@@ -20,24 +19,22 @@ use Rattle.timetable.specs.declared.row.Row.{Row}
 
 -- ---- numbers that fit their types
 
-abbrev pub TypedDemand : Demand → Type 0
-TypedDemand d = (d.train.0 < 2 ^ 32) × (d.from.0 < 256) × (d.to.0 < 256) × (d.people < 256)
-
 abbrev pub TypedInput : Input → Type 0
 TypedInput (Close t) = t.0 < 2 ^ 32
-TypedInput (Sell d) = TypedDemand d
+TypedInput (Sell d) = SoundDemand d
 TypedInput (Undo n) = n.0 < 2 ^ 32
-TypedInput (Give to d) = (to.0 < 256) × TypedDemand d
+TypedInput (Give to d) = (to.0 < 256) × SoundDemand d
 TypedInput (Take from n p) = (from.0 < 256) × (n.0 < 2 ^ 32) × SoundPiece p
 TypedInput (Hear from n) = (from.0 < 256) × (n.0 < 2 ^ 32)
-TypedInput (input.Ask d) = TypedDemand d
-TypedInput (Grant from a d) = (from.0 < 256) × (a.0 < 2 ^ 32) × TypedDemand d
+TypedInput (input.Ask d) = SoundDemand d
+TypedInput (Grant from a d) = (from.0 < 256) × (a.0 < 2 ^ 32) × SoundDemand d
 
 abbrev pub Typed : Event → Type 0
 Typed (Call i) = TypedInput i
 Typed (Answered from a n) = (from.0 < 256) × (a.0 < 2 ^ 32) × (n < 256)
 Typed (Told from t y) = (from.0 < 256) × (t.0 < 2 ^ 32) × (y.whole < 65536) × (y.any < 65536)
 Typed Tick = Unit
+Typed Garbled = Unit
 
 abbrev pub TypedRow : Row → Type 0
 TypedRow r = (r.train.0 < 2 ^ 32) × (r.first.0 < 256)

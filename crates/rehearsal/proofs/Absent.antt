@@ -1,25 +1,25 @@
 -- A seat that no train has is in no place.
 -- Assumes nothing.
-use Rattle.std.proofs.Common.{◌≡◌, ℕ, suc, ◌<◌, ◌≤◌, true, ltb, List, [], ◌∷◌, map, length, get_or, replicate, Some, None, Option, ap, ap₂, ◌∙◌, arith}
+use Rattle.std.proofs.Common.{◌≡◌, ℕ, suc, ◌<◌, ◌≤◌, Bool, true, ltb, List, [], ◌∷◌, map, length, get_or, replicate, Some, None, Option, ap, arith}
 use mathlib.Core.Logic.{∥∥₁_elim}
 use native.Mathlib.Nat.{ℕ_set}
 use Rattle.choosing.specs.Parties.{seats_of, below}
 use Rattle.choosing.specs.declared.party.Party.{Party}
 use Rattle.giving.specs.declared.message.Message.{Message}
-use Rattle.network.proofs.Count.{given_to, taken_from, one, count_nil, count_cons, count_append}
+use Rattle.network.proofs.Count.{one, count_nil, count_cons, count_append}
 use Rattle.network.proofs.Fine.{Lists, Real}
-use Rattle.network.proofs.Linked.{given_rest, ok_reach}
 use Rattle.network.proofs.Local.{listed_row, listed_party}
 use Rattle.network.specs.Places.{count_in, sold_by, standing, under_way, gather}
 use Rattle.network.specs.declared.place.Place.TheVariants.{Way}
-use Rattle.network.specs.Worlds.{journal, state}
 use Rattle.pieces.specs.Parts.{piece_of}
 use Rattle.pieces.specs.declared.names.Seat.{Seat}
 use Rattle.pieces.specs.declared.names.Train.{Train}
 use Rattle.pieces.specs.declared.piece.Piece.{Piece}
 use Rattle.pieces.specs.declared.trip.Trip.{Trip}
+use Rattle.rehearsal.proofs.Alone.{listed_way}
 use Rattle.rehearsal.proofs.Gathered.{gather_none}
-use Rattle.rehearsal.specs.Lives.{Lives, shown, journal_of, world_of, nowhere}
+use Rattle.rehearsal.proofs.Living.{stands_at}
+use Rattle.rehearsal.specs.Lives.{Lives, shown, journal_of, nowhere}
 use Rattle.rehearsal.specs.declared.post.Post.{Post}
 use Rattle.std.proofs.lemmas.Bool.{and_parts, ltb-true}
 use Rattle.std.proofs.lemmas.Bool.Decides.{nat_tests}
@@ -53,25 +53,14 @@ module _ (t : Train) (s u : ℕ) (far : 400 ≤ s) where
   tickets_none tb [] h = count_nil t s u
   tickets_none tb (x ∷ xs) h = omega (arith, count_append t s u (sold_by x) (standing xs), ticket_none tb x (h 0 x (omega arith)), tickets_none tb xs (λ k d l. h (suc k) d (omega arith)))
 
-  module _ (tb : Table) (ps : List Post) (ms : List Message) (lives : ∥ Lives tb ps ms ∥₁) where
-    -- in a world that was reached
+  module _ (tb : Table) (ps : List Post) (ms : List Message) (x : Bool) (lives : ∥ Lives tb ps ms x ∥₁) where
     pub sold_none : (i : ℕ) → i < length ps → count_in t s u (standing (get_or (map shown ps) i nowhere).tickets) ≡ 0
-    sold_none i l = ∥∥₁_elim lives (ℕ_set _ _) (λ v. ap (λ x. count_in t s u (standing x.tickets)) (v.faithful i l) ∙ tickets_none tb (state (length ps) tb (world_of ps ms) i).tickets ((ok_reach (length ps) tb (map length (map journal_of ps), v.reached)).fine i).real)
+    sold_none i l = ∥∥₁_elim lives (ℕ_set _ _) (λ v. tickets_none tb (get_or (map shown ps) i nowhere).tickets (stands_at tb ps ms x v i l).real)
 
-    way_none : (i j : ℕ) → i < length ps → j < length ps → count_in t s u (under_way i j (get_or (map shown ps) i nowhere) (get_or (map shown ps) j nowhere)) ≡ 0
-    way_none i j l m = ∥∥₁_elim lives (ℕ_set _ _) (λ v. ap₂ (λ x y. count_in t s u (under_way i j x y)) (v.faithful i l) (v.faithful j m) ∙ go v)
-      where
-        go : Lives tb ps ms → count_in t s u (under_way i j (state (length ps) tb (world_of ps ms) i) (state (length ps) tb (world_of ps ms) j)) ≡ 0
-        go v =
-            let n = length ps in
-            let w = world_of ps ms in
-            let ok = ok_reach n tb (map length (map journal_of ps), v.reached) in
-            omega (
-              arith,
-              ap (count_in t s u) (given_rest n tb w ok i j),
-              count_append t s u (taken_from i (journal w j)) (under_way i j (state n tb w i) (state n tb w j)),
-              pieces_none tb (given_to j (journal w i)) ((ok.fine i).sent j),
-            )
+    way_none : (i j : ℕ) → i < length ps → count_in t s u (under_way i j (get_or (map shown ps) i nowhere) (get_or (map shown ps) j nowhere)) ≡ 0
+    way_none i j l =
+        ∥∥₁_elim lives (ℕ_set _ _)
+        (λ v. pieces_none tb _ (listed_way tb (get_or (map shown ps) i nowhere) (get_or (map shown ps) j nowhere) (get_or (map journal_of ps) i []) (stands_at tb ps ms x v i l) i j))
 
     pub ways_none : (i : ℕ) → i < length ps → gather (length ps) (λ j. replicate (count_in t s u (under_way i j (get_or (map shown ps) i nowhere) (get_or (map shown ps) j nowhere))) (Way (record { 0 = i }) (record { 0 = j }))) ≡ []
-    ways_none i l = gather_none (length ps) _ (λ j m. ap (λ (n : ℕ). replicate n (Way (record { 0 = i }) (record { 0 = j }))) (way_none i j l m))
+    ways_none i l = gather_none (length ps) _ (λ j _. ap (λ (n : ℕ). replicate n (Way (record { 0 = i }) (record { 0 = j }))) (way_none i j l))

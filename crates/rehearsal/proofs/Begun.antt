@@ -1,12 +1,13 @@
 -- Stations that have done nothing yet.
 -- Assumes nothing.
-use Rattle.std.proofs.Common.{◌≡◌, ℕ, zero, suc, ◌+◌, ◌<◌, ◌≤◌, ◌⊎◌, List, [], ◌∷◌, ◌++◌, map, length, get_or, vec_items, replicate, None, fold, sym, refl, ap, ◌∙◌, subst, ap₂, inl, inr, arith, length-append}
+use Rattle.std.proofs.Common.{◌≡◌, ℕ, zero, suc, ◌+◌, ◌<◌, ◌≤◌, false, ◌⊎◌, List, [], ◌∷◌, ◌++◌, map, length, get_or, vec_items, replicate, None, fold, sym, refl, ap, ◌∙◌, subst, ap₂, inl, inr, arith, length-append}
 use lib.ListN.{length-map, get_or-append}
 use lib.Seq.{get_or_at}
 use Rattle.asking.specs.Minds.{empty}
 use Rattle.network.proofs.Lists.{slice_index_same}
 use Rattle.network.specs.Falls.{Reached, none, site}
 use Rattle.network.specs.Worlds.{beginning}
+use Rattle.recovery.specs.Runs.{Did, nothing}
 use Rattle.rehearsal.proofs.Filed.{filed_with}
 use Rattle.rehearsal.specs.Lives.{Filed, Lives, shown, journal_of, mind_in, nowhere}
 use Rattle.rehearsal.specs.declared.post.Post.{Post}
@@ -54,11 +55,12 @@ no_lengths : (n : ℕ) → map {A = List Record} length (replicate n []) ≡ rep
 no_lengths zero = refl
 no_lengths (suc n) = ap (λ ks. 0 ∷ ks) (no_lengths n)
 
-pub begun_lives : (tb : Table) (n : ℕ) (ps : List Post) → length ps ≡ n → Begun n ps → Lives tb ps []
+pub begun_lives : (tb : Table) (n : ℕ) (ps : List Post) → length ps ≡ n → Begun n ps → Lives tb ps [] false
 begun_lives tb n ps e o =
     record {
-      reached = subst (λ js. Reached (length ps) tb (site (record { journals = js; said = [] }) (map length js))) (sym o.journals)
+      reached = λ _. subst (λ js. Reached (length ps) tb (site (record { journals = js; said = [] }) (map length js))) (sym o.journals)
           (subst (λ ks. Reached (length ps) tb (site (beginning (length ps)) ks)) (sym (no_lengths (length ps))) none);
       faithful = λ k l. o.states k l ∙ ap (λ (m : ℕ). begun m k) (sym e) ∙ sym (ap (λ js. fold (apply tb) (begun (length ps) k) (get_or js k [])) o.journals ∙ ap (fold (apply tb) (begun (length ps) k)) (slice_index_same {A = List Record} [] (length ps) k));
       filed = o.filed;
+      did = λ k l. subst (Did (length ps) k tb) (sym (ap (λ js. get_or js k []) o.journals ∙ slice_index_same {A = List Record} [] (length ps) k)) (nothing tb);
     }

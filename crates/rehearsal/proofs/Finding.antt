@@ -1,6 +1,6 @@
 -- A stretch of a seat counted in what a station has sold and in what waits, one place at a time.
 -- Assumes nothing.
-use Rattle.std.proofs.Common.{ap₂, drop, ◌-◌, ◌≡◌, count_by, ℕ, ◌<◌, Bool, true, false, cond, ◌&&◌, ltb, ◌⊎◌, List, [], ◌∷◌, ◌++◌, map, length, get_or, sym, refl, ap, ◌∙◌, subst, inl, inr, append_assoc, append-nil, arith, Option}
+use Rattle.std.proofs.Common.{ap₂, drop, ◌-◌, ◌≡◌, count_by, ℕ, ◌<◌, Bool, true, false, cond, ◌&&◌, ltb, ◌⊎◌, List, [], ◌∷◌, ◌++◌, map, length, get_or, sym, refl, ap, ◌∙◌, inl, inr, append_assoc, append-nil, arith, Option}
 use mathlib.Core.Bool.{Bool-set}
 use mathlib.Core.Logic.{∥∥₁_elim}
 use Rattle.choosing.specs.declared.party.Party.{Party}
@@ -11,7 +11,6 @@ use Rattle.giving.specs.declared.ids.Number.{Number}
 use Rattle.giving.specs.declared.message.Message.{Message}
 use Rattle.network.proofs.Count.{count_nil, count_append}
 use Rattle.network.proofs.Held.{Sound, in_shut}
-use Rattle.network.proofs.Linked.{ok_reach}
 use Rattle.network.specs.Places.{under_way, holding, count_in, sold_by, standing}
 use Rattle.pieces.specs.Memory.{word_at}
 use Rattle.pieces.specs.Parts.{has, piece_of}
@@ -20,8 +19,9 @@ use Rattle.pieces.specs.declared.names.Seat.{Seat}
 use Rattle.pieces.specs.declared.names.Train.{Train}
 use Rattle.pieces.specs.declared.piece.Piece.{Piece}
 use Rattle.pieces.specs.declared.trip.Trip.{Trip}
+use Rattle.rehearsal.proofs.Living.{stands_at}
 use Rattle.rehearsal.proofs.Posts.{here_is}
-use Rattle.rehearsal.specs.Lives.{Lives, shown, journal_of, nowhere}
+use Rattle.rehearsal.specs.Lives.{Lives, shown, nowhere}
 use Rattle.rehearsal.specs.declared.post.Post.{Post}
 use Rattle.state.specs.States.{State, place, is_open}
 use Rattle.std.proofs.lemmas.Bool.{cases_Bool, lt-ltb}
@@ -75,11 +75,11 @@ module _ (t : Train) (s u : ℕ) (l : s < 400) where
       go (inr o) = ap (λ b. b && holding t s u x) o ∙ sym (none_held (holding t s u x) (in_shut t s u l x sound o))
 
 -- what a station that was read tells of it, by the world that it is in
-pub held_at : (tb : Table) (ps : List Post) (ms : List Message) → ∥ Lives tb ps ms ∥₁ → (t : Train) (s u : ℕ) → s < 400 → (i : ℕ) (p : Post) → i < length ps → p ≡ get_or ps i p →
+pub held_at : (tb : Table) (ps : List Post) (ms : List Message) (x : Bool) → ∥ Lives tb ps ms x ∥₁ → (t : Train) (s u : ℕ) → s < 400 → (i : ℕ) (p : Post) → i < length ps → p ≡ get_or ps i p →
     (ltb s 400 && (is_open (shown p) t && holds (word_at (shown p).words (place (shown p) t) s) u)) ≡ holding t s u (get_or (map shown ps) i nowhere)
-held_at tb ps ms lives t s u l i p b e =
+held_at tb ps ms x lives t s u l i p b e =
     ap (λ x. ltb s 400 && (is_open x t && holds (word_at x.words (place x t) s) u)) (sym (here_is ps i p b e))
-    ∙ ∥∥₁_elim lives (Bool-set _ _) (λ v. held_is t s u l (get_or (map shown ps) i nowhere) (subst Sound (sym (v.faithful i b)) ((ok_reach (length ps) tb (map length (map journal_of ps), v.reached)).fine i).sound))
+    ∙ ∥∥₁_elim lives (Bool-set _ _) (λ v. held_is t s u l (get_or (map shown ps) i nowhere) (stands_at tb ps ms x v i b).sound)
 
 -- ---- one list behind another
 

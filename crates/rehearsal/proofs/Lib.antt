@@ -3,8 +3,10 @@ pub mod Gathered
 pub mod Filed
 pub mod Restarting
 pub mod Posts
+pub mod Alone
 pub mod Living
 pub mod Fallen
+pub mod Comings
 pub mod Goings
 pub mod Rising
 pub mod Turning

@@ -1,13 +1,12 @@
 -- A station's file, whatever of it is left, is one that a station comes up from.
 -- Assumes nothing.
-use Rattle.std.proofs.Common.{◌≡◌, ℕ, zero, suc, ◌<◌, true, List, [], ◌∷◌, length, map, get_or, vec_items, fold, take, drop, Ok, sym, refl, ap, ◌∙◌, subst, arith}
+use Rattle.std.proofs.Common.{◌≡◌, ℕ, zero, suc, ◌<◌, Bool, true, List, [], ◌∷◌, length, map, get_or, vec_items, fold, take, drop, Ok, sym, refl, ap, ◌∙◌, subst, arith}
 use Rattle.files.proofs.Laws.{cut_anywhere}
 use Rattle.files.specs.Bytes.{journal_bytes}
 use Rattle.files.specs.Reading.{records_of}
 use Rattle.giving.proofs.Mapped.{map_at}
 use Rattle.giving.specs.declared.message.Message.{Message}
-use Rattle.network.proofs.Numbers.{fitting}
-use Rattle.recovery.proofs.Journals.{fit_front}
+use Rattle.recovery.proofs.Journals.{did_stands, fit_front}
 use Rattle.recovery.proofs.Rises.{risen_is}
 use Rattle.recovery.specs.Rising.{risen}
 use Rattle.rehearsal.specs.Lives.{Filed, Lives, journal_of, nowhere, shown}
@@ -23,7 +22,7 @@ post_at [] k h = absurd (omega arith)
 post_at (p ∷ ps) zero h = (p, refl)
 post_at (p ∷ ps) (suc k) h = post_at ps k (omega arith)
 
-module _ (tb : Table) (ps : List Post) (ms : List Message) (l : Lives tb ps ms) (k : ℕ) (b : k < length ps) where
+module _ (tb : Table) (ps : List Post) (ms : List Message) (x : Bool) (l : Lives tb ps ms x) (k : ℕ) (b : k < length ps) where
   abbrev file : List ℕ
   file = get_or (map (λ p. vec_items p.file) ps) k []
 
@@ -37,7 +36,7 @@ module _ (tb : Table) (ps : List Post) (ms : List Message) (l : Lives tb ps ms) 
   file_is = map_at (λ p. vec_items p.file) ps k here [] b (post_at ps k b).1 ∙ filed.whole
 
   fits : all_fit tb (begun (length ps) k) (journal_of here) ≡ true
-  fits = subst (λ es. all_fit tb (begun (length ps) k) es ≡ true) (map_at journal_of ps k here [] b (post_at ps k b).1) (fitting (length ps) tb (_, l.reached) k)
+  fits = subst (λ es. all_fit tb (begun (length ps) k) es ≡ true) (map_at journal_of ps k here [] b (post_at ps k b).1) (did_stands (length ps) k (l.did k b)).1
 
   pub left_rises : (n : ℕ) → risen tb (begun (length ps) k) (take n file) ≡ Ok (fold (apply tb) (begun (length ps) k) (records_of (take n file)))
   left_rises n =

@@ -53,7 +53,7 @@ module _ (w : Code) (i : ℕ) (p : Post) (b : i < count w) (e : p ≡ get_or (ve
     pub opening_fell : (r : Row) → FellOpening (rows w) p r k (rows v) q result → (o : Result (Turn Outcome) AllocError) → Ends result o → TurnedOpen w i r v o
     opening_fell r f =
         let o = f.outcome in
-        let ext : Extends (rows w) (listing (rows w) r o) = ∥∥₁_elim w.lives (Prim.hlevel props) (λ l. opening_extends _ _ _ l i p b e r o f.answer) in
+        let ext : Extends (rows w) (listing (rows w) r o) = ∥∥₁_elim w.lives (Prim.hlevel props) (λ l. opening_extends _ _ _ _ l i p b e r o f.answer) in
         turned w v i p q b e put w.lives said (λ _ m. record { trains = listing (rows w) r o; records = records o; mind = m }) ext f.listed f.sound k
         (OpenedBy w i r v) (AnswersOpen w i r) (progress_open w i r) o refl cut (answers_open r o f.answer f.memory) result
         (subst (λ t. CameBack t p (records o) (after t (shown p) o) (mind_in p) k q result) f.listed f.fell)

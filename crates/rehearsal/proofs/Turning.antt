@@ -64,7 +64,7 @@ module _ (w v : Code) (i : ℕ) (p q : Post) (b : i < length (vec_items w.posts)
 
   -- ---- falls
 
-  module _ (lives : ∥ Lives (rows w) ps (vec_items w.said) ∥₁) (said : vec_items v.said ≡ vec_items w.said) (d : State → Mind → Progress) where
+  module _ (lives : ∥ Lives (rows w) ps (vec_items w.said) w.made_up ∥₁) (said : vec_items v.said ≡ vec_items w.said) (d : State → Mind → Progress) where
     abbrev did : Progress
     did = d (shown p) (mind_in p)
 
@@ -72,14 +72,14 @@ module _ (w v : Code) (i : ℕ) (p q : Post) (b : i < length (vec_items w.posts)
       fallen : (x : Unit) → CameBack did.trains p did.records (fold (apply did.trains) (shown p) did.records) did.mind k q (Ok x) → Fallen w i (d (state_of w i) (mind_of w i)) k v
       fallen x r =
           record {
-            left = left_is (λ s m. cut_at k (d s m)) trains said (∥∥₁_elim lives (remains_prop _ p _ _ q) (λ l. (rests (rows w) ps _ l i p q b e did.trains ext did.records sound did.mind k _ refl (Ok x) r).0));
+            left = left_is (λ s m. cut_at k (d s m)) trains said (∥∥₁_elim lives (remains_prop _ p _ _ q) (λ l. (rests (rows w) ps _ _ l i p q b e did.trains ext did.records sound did.mind k _ refl (Ok x) r).0));
             cuts = cuts_then ∙ ap (set (cuts w) i) r.cut;
           }
 
       stuck : (x : AllocError) → CameBack did.trains p did.records (fold (apply did.trains) (shown p) did.records) did.mind k q (Err x) → Stuck w i (d (state_of w i) (mind_of w i)) v
       stuck x r =
           record {
-            left = left_is d trains said (∥∥₁_elim lives (remains_prop _ p _ _ q) (λ l. (rests (rows w) ps _ l i p q b e did.trains ext did.records sound did.mind k _ refl (Err x) r).0));
+            left = left_is d trains said (∥∥₁_elim lives (remains_prop _ p _ _ q) (λ l. (rests (rows w) ps _ _ l i p q b e did.trains ext did.records sound did.mind k _ refl (Err x) r).0));
             cuts = same_of (λ p. p.cut) r.cut;
           }
 
@@ -92,7 +92,7 @@ module _ (w v : Code) (i : ℕ) (p q : Post) (b : i < length (vec_items w.posts)
         turned (Err x) f (Err y) h = (k, r, cut, a, subst (λ z. Stuck w i z v) (sym is) (stuck x f))
 
   -- the power is cut between two steps
-  pub cut_between : ∥ Lives (rows w) ps (vec_items w.said) ∥₁ → rows v ≡ rows w → vec_items v.said ≡ vec_items w.said → (k : ℕ) → k ≡ length (vec_items p.file) → (result : Result Unit AllocError) →
+  pub cut_between : ∥ Lives (rows w) ps (vec_items w.said) w.made_up ∥₁ → rows v ≡ rows w → vec_items v.said ≡ vec_items w.said → (k : ℕ) → k ≡ length (vec_items p.file) → (result : Result Unit AllocError) →
       MatchResult result (λ _. Restarted (rows w) (length (shown p).channels) (shown p).me (take k (vec_items p.file)) q) (λ _. Unchanged p q) → MatchResult result (λ _. Fallen w i (idle w i) 0 v) (λ _. Same w v)
   cut_between lives t s k at (Ok x) r =
       fallen lives s (λ _ m. record { trains = rows w; records = []; mind = m }) (λ k y f. f) t tt 0 x

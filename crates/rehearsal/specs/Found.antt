@@ -24,6 +24,6 @@ spots_of w t s u i = spots (count w) t s u (state_of w) i
 abbrev pub places_of : Code → Train → (seat stop : ℕ) → List Place
 places_of w t s u = places (count w) t s u (state_of w)
 
--- from where the first station of the train has opened it to where a station first closes it, the list has one place
+-- where nothing made up was taken, from where the first station of the train has opened it to where a station first closes it, the list has one place
 abbrev pub OneIn : Code → Train → (seat stop : ℕ) → List Place → Type 0
-OneIn w t s u found = (r : Row) → rows w t.0 ≡ Some r → is_open (state_of w r.first.0) t ≡ true → ((k : ℕ) → k < count w → was_closed (state_of w k) t ≡ false) → s < r.seats → u < stretches r → length found ≡ 1
+OneIn w t s u found = w.made_up ≡ false → (r : Row) → rows w t.0 ≡ Some r → is_open (state_of w r.first.0) t ≡ true → ((k : ℕ) → k < count w → was_closed (state_of w k) t ≡ false) → s < r.seats → u < stretches r → length found ≡ 1

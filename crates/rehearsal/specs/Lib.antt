@@ -1,3 +1,4 @@
+pub mod Comings
 pub mod Lives
 pub mod Seen
 pub mod Restarts

@@ -1,5 +1,5 @@
--- Stations at work, beside their files, in a world that was reached.
-use Rattle.std.specs.Prelude.{◌≡◌, ℕ, ◌<◌, List, [], map, length, vec_items, slice_index_or}
+-- Stations at work, beside their files.
+use Rattle.std.specs.Prelude.{◌≡◌, ℕ, ◌<◌, Bool, false, List, [], map, length, vec_items, slice_index_or}
 use Rattle.asking.specs.Minds.{Mind}
 use Rattle.files.specs.Bytes.{AllSound, journal_bytes}
 use Rattle.files.specs.Reading.{records_of}
@@ -7,6 +7,7 @@ use Rattle.giving.specs.declared.message.Message.{Message}
 use Rattle.network.specs.Worlds.{World, state}
 use Rattle.network.specs.Falls.{Site, site, Reached}
 use Rattle.recovery.specs.Machines.{shown as machine_shown, mind_in as machine_mind}
+use Rattle.recovery.specs.Runs.{Did}
 use Rattle.rehearsal.specs.declared.post.Post.{Post}
 use Rattle.state.specs.States.{State}
 use Rattle.state.specs.declared.record.Record.{Record}
@@ -39,8 +40,10 @@ site_of ps ms = site (world_of ps ms) (map length (map journal_of ps))
 abbrev pub nowhere : State
 nowhere = record { me = 0; slots = []; words = []; ever_sold = []; ever_gave = []; closed = []; dropped = 0; tickets = []; asked = 0; channels = [] }
 
--- the world was reached, each station's state is what its journal says, and each journal is a file
-pub record Lives (tb : Table) (ps : List Post) (ms : List Message) : Type 0 where
-  pub reached : Reached (length ps) tb (site_of ps ms)
+-- the world was reached, unless what nobody said was taken in it; each station's state is what its journal says, each journal is a file, and what such
+-- a station may have written
+pub record Lives (tb : Table) (ps : List Post) (ms : List Message) (made_up : Bool) : Type 0 where
+  pub reached : made_up ≡ false → Reached (length ps) tb (site_of ps ms)
   pub faithful : (k : ℕ) → k < length ps → slice_index_or (map shown ps) k nowhere ≡ state (length ps) tb (world_of ps ms) k
   pub filed : All Filed ps
+  pub did : (k : ℕ) → k < length ps → Did (length ps) k tb (slice_index_or (map journal_of ps) k [])

@@ -1,5 +1,5 @@
 -- What may become of a world in a step of one of its stations, or in a fall.
-use Rattle.std.specs.Prelude.{◌≡◌, ℕ, ◌<◌, ◌≤◌, true, false, ◌⊎◌, List, [], ◌++◌, length, take, Vec, vec_items, slice_index_or, slice_set, fold, IsSome, None, Some, Option, Ok, Err, Result}
+use Rattle.std.specs.Prelude.{◌≡◌, ℕ, ◌<◌, ◌≤◌, Bool, true, false, is_ok, ◌⊎◌, List, [], ◌++◌, length, take, Vec, vec_items, slice_index_or, slice_set, fold, IsSome, None, Some, Option, Ok, Err, Result}
 use Rattle.std.specs.declared.alloc.AllocError.{AllocError}
 use Rattle.std.specs.declared.alloc.Global.{Global}
 use Rattle.asking.specs.Events.{Response, resolved, event_of}
@@ -115,6 +115,12 @@ progress w i e r = record { trains = rows w; records = written (state_of w i) r;
 
 abbrev pub TurnedBy : (w : Code) (i : ℕ) → Event → (v : Code) → Result (Turn Reply) AllocError → Type 0
 TurnedBy w i e v = Turned w i v (Happened w i e v) (Answers w i e) (progress w i e)
+
+-- an event may have changed something, unless it was turned away
+abbrev pub acted : Result (Turn Reply) AllocError → Bool
+acted (Ok (Came r)) = is_ok r
+acted (Ok Fell) = true
+acted (Err x) = true
 
 abbrev pub progress_open : Code → (i : ℕ) → Row → Answer → Progress
 progress_open w i r o = record { trains = listing (rows w) r o; records = records o; mind = mind_of w i }

@@ -8,6 +8,7 @@ use giving::message::Message;
 use timetable::timetable::Timetable;
 
 pub mod falls;
+pub mod made_up;
 pub mod moves;
 pub mod places;
 pub mod reads;
@@ -17,6 +18,8 @@ pub struct World {
     trains: Timetable,
     posts: Vec<Post>,
     said: Vec<Message>,
-    ghost lives: { ∥ Lives (table trains) posts.items said.items ∥₁ },
+    // what nobody said was taken here or passed over, or may have been, where the power was cut
+    made_up: bool,
+    ghost lives: { ∥ Lives (table trains) posts.items said.items made_up ∥₁ },
     ghost few: { vec_len posts ≤ 255 },
 }

@@ -11,7 +11,8 @@ use rehearsal::queue::Queue;
 use rehearsal::turn::Turn;
 use rehearsal::world::World;
 use script::command::{Command, Deed, Opening};
-use script::show::{Coming, Lost, Said};
+use script::made_up::{MadeUp, read_made_up};
+use script::show::{Delivery, Handed, Lost, Said};
 use script::values::{row, station_id};
 use std::alloc::{AllocError, Global};
 use std::collections::BTreeSet;
@@ -79,7 +80,19 @@ impl Game {
         self.queue.add(from, said.len())
     }
 
-    // A station does something: what it says is printed, then its answer.
+    // What came of a station's step: what it said in it is printed, then its answer.
+    fn came(
+        &mut self,
+        who: StationId,
+        before: usize,
+        turn: Turn<Reply>,
+        page: &mut String,
+    ) -> Result<(), AllocError> {
+        self.hear(before, page)?;
+        writeln!(page, "{who} {}", Shown(turn))
+    }
+
+    // A station does something.
     fn station(
         &mut self,
         heap: Global,
@@ -97,8 +110,7 @@ impl Game {
         let Some(turn) = turn else {
             return page.push_str(NO_COMMAND);
         };
-        self.hear(before, page)?;
-        writeln!(page, "{who} {}", Shown(turn))
+        self.came(who, before, turn, page)
     }
 
     // A train is opened, and all stations have its row.
@@ -156,16 +168,35 @@ impl Game {
         }
     }
 
-    // A message is delivered: it is printed, then what is said of it, then what it came to.
+    // A message is delivered: it is printed, then what came of it.
     fn deliver(&mut self, heap: Global, at: usize, page: &mut String) -> Result<(), AllocError> {
         let before = self.world.said().len();
         let Some(delivered) = self.world.deliver(heap, at)? else {
             return page.push_str(NO_COMMAND);
         };
         let (message, turn) = delivered;
-        writeln!(page, "{}", Coming(message))?;
-        self.hear(before, page)?;
-        writeln!(page, "{} {}", message.to, Shown(turn))
+        writeln!(page, "{}", Delivery(message))?;
+        self.came(message.to, before, turn, page)
+    }
+
+    // A line that is no command: it may hand a station bytes, which are printed, then what came of them.
+    pub fn receive(
+        &mut self,
+        heap: Global,
+        line: &str,
+        page: &mut String,
+    ) -> Result<(), AllocError> {
+        let Some(MadeUp { to, from, bytes }) = read_made_up(heap, line)? else {
+            return page.push_str(NO_COMMAND);
+        };
+        let who = station_id(to);
+        let bytes = bytes.as_slice();
+        let before = self.world.said().len();
+        let Some(turn) = self.world.receive(heap, who, from, bytes)? else {
+            return page.push_str(NO_COMMAND);
+        };
+        writeln!(page, "{}", Handed { to, from, bytes })?;
+        self.came(who, before, turn, page)
     }
 
     // The first message in the queue is delivered, if there is one.

@@ -27,6 +27,7 @@ impl Player {
         let text = from_utf8(line).unwrap_or_default();
         match (read(heap, text)?, &mut self.game) {
             (Some(command), Some(game)) => game.play(heap, command, &mut page)?,
+            (None, Some(game)) => game.receive(heap, text, &mut page)?,
             (Some(Command::Stations { count: n @ 1..=8 }), None) => {
                 self.game = Some(Game::new(heap, n as u8)?);
             }

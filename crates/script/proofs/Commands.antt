@@ -1,20 +1,17 @@
 -- What a line says, by its first word.
-use Rattle.std.proofs.Common.{◌≡◌, ℕ, ◌≤◌, List, [], ◌∷◌, length, refl, arith, Option, Some, None}
+use Rattle.std.proofs.Common.{◌≡◌, ℕ, List, [], ◌∷◌, refl, Option, Some, None}
 use Rattle.std.specs.Option.{option_and_then}
-use Rattle.script.specs.Lines.{deed_of, words_deed, line_command_of, station_command_of, words_command, command_of}
-use Rattle.script.specs.Words.{words_of, number_of, numbers_of}
+use Rattle.script.specs.Lines.{deed_of, words_deed, line_command_of, station_command_of, command_of}
+use Rattle.script.specs.Words.{line_words, number_of, numbers_of}
 
-command-words : (line : List ℕ) (ws : List (List ℕ)) → length line ≤ 4096 → words_of line ≡ ws → command_of line ≡ words_command ws
-command-words line ws short e = rw e (grind arith)
+pub command-none : (line : List ℕ) (ws : List (List ℕ)) → Some ws ≡ line_words line → ws ≡ [] → None ≡ command_of line
+command-none line ws short e = rw (← short, e) refl
 
-pub command-none : (line : List ℕ) → length line ≤ 4096 → words_of line ≡ [] → None ≡ command_of line
-command-none line short e = rw (command-words line [] short e) refl
+pub command-line : (line w : List ℕ) (all ws : List (List ℕ)) (o : Option (List ℕ)) → Some all ≡ line_words line → all ≡ w ∷ ws → number_of w ≡ None → o ≡ numbers_of ws → option_and_then (λ ns. line_command_of w ns) o ≡ command_of line
+command-line line w all ws o short e none h = rw (← short, e, none, h) refl
 
-pub command-line : (line w : List ℕ) (ws : List (List ℕ)) (o : Option (List ℕ)) → length line ≤ 4096 → words_of line ≡ w ∷ ws → number_of w ≡ None → o ≡ numbers_of ws → option_and_then (λ ns. line_command_of w ns) o ≡ command_of line
-command-line line w ws o short e none h = rw (command-words line (w ∷ ws) short e, none, h) refl
-
-pub command-station : (line w : List ℕ) (ws : List (List ℕ)) (who : ℕ) → length line ≤ 4096 → words_of line ≡ w ∷ ws → number_of w ≡ Some who → station_command_of who ws ≡ command_of line
-command-station line w ws who short e some = rw (command-words line (w ∷ ws) short e, some) refl
+pub command-station : (line w : List ℕ) (all ws : List (List ℕ)) (who : ℕ) → Some all ≡ line_words line → all ≡ w ∷ ws → number_of w ≡ Some who → station_command_of who ws ≡ command_of line
+command-station line w all ws who short e some = rw (← short, e, some) refl
 
 pub deed-none : (ws : List (List ℕ)) → ws ≡ [] → None ≡ words_deed ws
 deed-none ws e = rw e refl

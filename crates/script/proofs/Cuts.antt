@@ -1,5 +1,5 @@
 -- The words of a text, taken off one after the other.
-use Rattle.std.proofs.Common.{◌≡◌, ℕ, ◌<◌, ◌≤◌, suc, Bool, true, false, List, [], ◌∷◌, ◌++◌, length, refl, sym, ap, ◌∙◌, append-nil, arith, filter, nat_lt, Bor, Option, Some, None}
+use Rattle.std.proofs.Common.{◌≡◌, ℕ, ◌<◌, ◌≤◌, suc, Bool, true, false, List, [], ◌∷◌, ◌++◌, length, refl, ◌∙◌, append-nil, arith, filter, nat_lt, Bor, Option, Some, None}
 use Rattle.std.proofs.lemmas.Grind.{common_steps}
 use Rattle.std.proofs.lemmas.List.Splits.{slice_split-cons_yes, slice_split_none, slice_split_at}
 use Rattle.std.proofs.lemmas.Str.{NoCharPasses-byte}
@@ -46,8 +46,3 @@ next-word s t None (blank, ended) = rw (← append-nil (split_ascii_whitespace_t
 next-word s t (Some x) (some, none, shorter, (gap, sep, e, blank, ends)) =
     let rest = split_ascii_whitespace_text t in
     rw e (parts-blanks is_ascii_whitespace gap (x.now ++ (sep ++ rest)) blank ∙ words-first x.now sep rest some none ends)
-
--- the same of a line whose words are all to come
-pub first-word : (line : List ℕ) (s t : SplitAscii) (r : Option (Bor (List ℕ))) → split_ascii_whitespace_text s ≡ line → split_ascii_whitespace_steps s r t → MatchOption r (words_of line ≡ []) (λ x. words_of line ≡ x.now ∷ words_left t)
-first-word line s t None e h = ap words_of (sym e) ∙ next-word s t None h
-first-word line s t (Some x) e h = ap words_of (sym e) ∙ next-word s t (Some x) h

@@ -1,12 +1,13 @@
 -- What a line says.
-use Rattle.std.specs.Prelude.{ℕ, List, [], ◌∷◌, length, if◌then◌else◌, nat_lt, codes, bytes_eq, Option, Some, None, option_map}
+use Rattle.std.specs.Prelude.{ℕ, List, [], ◌∷◌, if◌then◌else◌, codes, bytes_eq, Option, Some, None, option_map}
 use Rattle.std.specs.Option.{option_and_then}
+use Rattle.lines.specs.Hex.{hex_value}
 use Rattle.script.specs.declared.command.Command.{Command}
 use Rattle.script.specs.declared.command.Command.TheVariants.{Stations, Station, Pass, PassMany, Lose, Twice, Late, Cut, CutNext, Where}
 use Rattle.script.specs.declared.command.Deed.{Deed}
 use Rattle.script.specs.declared.command.Deed.TheVariants.{Open, Close, Sell, Undo, Give, Ask, Lost, Tick}
 use Rattle.script.specs.declared.command.Opening.{Opening}
-use Rattle.script.specs.Words.{words_of, number_of, numbers_of}
+use Rattle.script.specs.Words.{line_words, number_of, numbers_of}
 
 -- what a station is told, by a word and the numbers behind it
 abbrev pub deed_of : List ℕ → List ℕ → Option Deed
@@ -55,11 +56,11 @@ words_command (w ∷ ws) = command_by (number_of w) w ws
 
 -- what a line says; nothing where it is no command, or too long
 abbrev pub command_of : List ℕ → Option Command
-command_of line = if nat_lt 4096 (length line) then None else words_command (words_of line)
+command_of line = option_and_then words_command (line_words line)
 
 -- what a line asks of the station that reads it
 abbrev pub deed_line : List ℕ → Option Deed
-deed_line line = if nat_lt 4096 (length line) then None else words_deed (words_of line)
+deed_line line = option_and_then words_deed (line_words line)
 
 -- the row of a train, by its numbers
 abbrev pub opening_of : List ℕ → Option Opening
@@ -72,4 +73,20 @@ opening_of (t ∷ n ∷ m ∷ f ∷ x ∷ xs) = None
 
 -- a line of the timetable
 abbrev pub row_line : List ℕ → Option Opening
-row_line line = if nat_lt 4096 (length line) then None else option_and_then opening_of (numbers_of (words_of line))
+row_line line = option_and_then (λ ws. option_and_then opening_of (numbers_of ws)) (line_words line)
+
+-- the bytes that a station is handed as if they came from another: it, the other, and the bytes
+abbrev pub made_up_of : List ℕ → List ℕ → List ℕ → Option (ℕ × (ℕ × List ℕ))
+made_up_of to from hex = option_and_then (λ i. option_and_then (λ j. option_map (λ bs. (i, (j, bs))) (hex_value hex)) (number_of from)) (number_of to)
+
+abbrev pub words_made_up : List (List ℕ) → Option (ℕ × (ℕ × List ℕ))
+words_made_up [] = None
+words_made_up (to ∷ []) = None
+words_made_up (to ∷ sign ∷ []) = None
+words_made_up (to ∷ sign ∷ from ∷ []) = None
+words_made_up (to ∷ sign ∷ from ∷ hex ∷ []) = if bytes_eq sign (codes "<") then made_up_of to from hex else None
+words_made_up (to ∷ sign ∷ from ∷ hex ∷ w ∷ ws) = None
+
+-- a line that hands a station such bytes
+abbrev pub made_up_line : List ℕ → Option (ℕ × (ℕ × List ℕ))
+made_up_line line = option_and_then words_made_up (line_words line)

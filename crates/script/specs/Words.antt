@@ -16,6 +16,10 @@ words_of text = filter (λ w. nat_lt 0 (length w)) (slice_split is_ascii_whitesp
 abbrev pub words_left : SplitAscii → List (List ℕ)
 words_left it = words_of (split_ascii_whitespace_text it)
 
+-- the words of a line; none where it is too long
+abbrev pub line_words : List ℕ → Option (List (List ℕ))
+line_words line = if nat_lt 4096 (length line) then None else Some (words_of line)
+
 -- the word is a number: one digit or more and nothing else, below 2^32
 abbrev pub is_number : List ℕ → Bool
 is_number w = nat_lt 0 (length w) && (all_ascii_digits w && nat_lt (digits_value 10 w) (2 ^ 32))

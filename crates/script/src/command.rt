@@ -1,6 +1,6 @@
 // The lines of a script.
 ghost use Rattle.script.specs.Lines.{deed_of, deed_line, words_deed, line_command_of, row_line, station_command_of, command_of};
-ghost use Rattle.script.specs.Words.{words_left, number_of, numbers_of};
+ghost use Rattle.script.specs.Words.{line_words, words_left, number_of, numbers_of};
 ghost use Rattle.std.specs.Prelude.{◌≡◌, option_map, IfOk};
 
 use std::alloc::{AllocError, Global};
@@ -58,6 +58,16 @@ pub enum Command {
 
 // A line has at most so many bytes.
 const LONGEST: usize = 4096;
+
+// The words of a line; none where it is too long.
+pub fn line_words(line: &str) -> Option<SplitAsciiWhitespace<'_>>
+    ensures { option_map words_left result ≡ line_words line.now }
+{
+    if line.len() > LONGEST {
+        return None;
+    }
+    Some(line.split_ascii_whitespace())
+}
 
 // The number that a word is, in decimal, below 2^32. A sign is no digit.
 pub fn number(word: &str) -> Option<u32>
@@ -170,20 +180,20 @@ fn station_command(
 pub fn read_deed(heap: Global, line: &str) -> Result<Option<Deed>, AllocError>
     ensures { IfOk result (λ r. r ≡ deed_line line.now) }
 {
-    if line.len() > LONGEST {
+    let Some(words) = line_words(line) else {
         return Ok(None);
-    }
-    words_deed(heap, line.split_ascii_whitespace())
+    };
+    words_deed(heap, words)
 }
 
 // Reads a line of the timetable; none where it is no row.
 pub fn read_row(heap: Global, line: &str) -> Result<Option<Opening>, AllocError>
     ensures { IfOk result (λ r. r ≡ row_line line.now) }
 {
-    if line.len() > LONGEST {
+    let Some(words) = line_words(line) else {
         return Ok(None);
-    }
-    let found = numbers(heap, line.split_ascii_whitespace())?;
+    };
+    let found = numbers(heap, words)?;
     let Some(&[train, seats, stops, first]) = found.as_deref() else {
         return Ok(None);
     };
@@ -199,10 +209,9 @@ pub fn read_row(heap: Global, line: &str) -> Result<Option<Opening>, AllocError>
 pub fn read(heap: Global, line: &str) -> Result<Option<Command>, AllocError>
     ensures { IfOk result (λ r. r ≡ command_of line.now) }
 {
-    if line.len() > LONGEST {
+    let Some(mut words) = line_words(line) else {
         return Ok(None);
-    }
-    let mut words = line.split_ascii_whitespace();
+    };
     let Some(first) = words.next() else {
         return Ok(None);
     };

@@ -2,5 +2,6 @@
 #![tactic(auto)]
 
 pub mod command;
+pub mod made_up;
 pub mod show;
 pub mod values;

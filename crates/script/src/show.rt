@@ -1,39 +1,13 @@
 // What is printed of messages, and of the trains of a lost station.
-ghost use Rattle.script.specs.Shown.{body_text, said_text, coming_text, lost_text};
+ghost use Rattle.script.specs.Shown.{said_text, handed_text, delivery_text, lost_text};
 ghost use Rattle.std.specs.Prelude.{Some};
 
 use giving::ids::StationId;
-use giving::message::{Body, Message};
+use giving::message::Message;
+use lines::frame::Frame;
+use lines::hex::Hex;
 use pieces::names::Train;
 use std::fmt;
-
-// A message as bytes, in hexadecimal: its kind, then its numbers, the high byte first.
-#[derive(Clone, Copy, Drop)]
-pub struct Hex(pub Body);
-
-impl fmt::Display for Hex {
-    ghost output = { λ h. Some (body_text h.0) };
-
-    fn fmt<W: fmt::Write>(&self, f: &mut fmt::Formatter<W>) -> fmt::Result {
-        match self.0 {
-            Body::Given(number, piece) => write!(
-                f,
-                "01{:08x}{:08x}{:04x}{:02x}{:02x}",
-                number.0, piece.train.0, piece.seat.0, piece.trip.from.0, piece.trip.to.0
-            ),
-            Body::Taken(number) => write!(f, "02{:08x}", number.0),
-            Body::Asked(ask, demand) => write!(
-                f,
-                "03{:08x}{:02x}{:02x}{:02x}{:08x}",
-                demand.train.0, demand.from.0, demand.to.0, demand.people, ask.0
-            ),
-            Body::Answered(ask, count) => write!(f, "04{:08x}{:02x}", ask.0, count),
-            Body::Told(train, tally) => {
-                write!(f, "05{:08x}{:04x}{:04x}", train.0, tally.whole, tally.any)
-            }
-        }
-    }
-}
 
 // A message as the station that says it prints it.
 #[derive(Clone, Copy, Drop)]
@@ -44,20 +18,43 @@ impl fmt::Display for Said {
 
     fn fmt<W: fmt::Write>(&self, f: &mut fmt::Formatter<W>) -> fmt::Result {
         let Message { from, to, body } = self.0;
-        write!(f, "{from} out {to} {}", Hex(body))
+        let frame = Frame::of(body);
+        write!(f, "{from} out {to} {}", Hex(frame.bytes()))
+    }
+}
+
+// Bytes as the station that they come to prints them.
+#[derive(Clone, Copy, Drop)]
+pub struct Handed<'a> {
+    pub to: u32,
+    pub from: u32,
+    pub bytes: &'a [u8],
+}
+
+impl<'a> fmt::Display for Handed<'a> {
+    ghost output = { λ h. Some (handed_text h.to h.from h.bytes.now) };
+
+    fn fmt<W: fmt::Write>(&self, f: &mut fmt::Formatter<W>) -> fmt::Result {
+        write!(f, "{} < {} {}", self.to, self.from, Hex(self.bytes))
     }
 }
 
 // A message as the station that it comes to prints it.
 #[derive(Clone, Copy, Drop)]
-pub struct Coming(pub Message);
+pub struct Delivery(pub Message);
 
-impl fmt::Display for Coming {
-    ghost output = { λ c. Some (coming_text c.0) };
+impl fmt::Display for Delivery {
+    ghost output = { λ d. Some (delivery_text d.0) };
 
     fn fmt<W: fmt::Write>(&self, f: &mut fmt::Formatter<W>) -> fmt::Result {
         let Message { from, to, body } = self.0;
-        write!(f, "{to} < {from} {}", Hex(body))
+        let frame = Frame::of(body);
+        let handed = Handed {
+            to: u32::from(to.0),
+            from: u32::from(from.0),
+            bytes: frame.bytes(),
+        };
+        write!(f, "{handed}")
     }
 }
 

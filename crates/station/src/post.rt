@@ -10,10 +10,12 @@ use giving::ids::StationId;
 use giving::message::Message;
 use giving::refusal::Refusal;
 use ledger::lost::lost_trains;
+use lines::frame::Frame;
+use lines::hex::Hex;
 use recovery::machine::Machine;
 use recovery::replay::replay;
 use script::command::{Opening, read_deed};
-use script::show::{Hex, Lost};
+use script::show::Lost;
 use script::values::row;
 use std::alloc::{AllocError, Global};
 use std::fs::{File, OpenOptions};
@@ -181,7 +183,8 @@ impl Post {
         self.perform(task, &mut answer)?;
         self.sync()?;
         for message in &self.out {
-            writeln!(page, "out {} {}", message.to, Hex(message.body))?;
+            let frame = Frame::of(message.body);
+            writeln!(page, "out {} {}", message.to, Hex(frame.bytes()))?;
         }
         self.out.clear();
         page.push_str(&answer)?;

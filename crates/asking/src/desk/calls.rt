@@ -162,6 +162,7 @@ impl Desk {
                 self.take_telling(station, table, from, train, tally)
             }
             Event::Tick => self.tick(station, table, out),
+            Event::Garbled => Err(Refusal::Malformed),
         }
     }
 }

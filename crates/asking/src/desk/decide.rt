@@ -81,17 +81,15 @@ impl Desk {
     ) -> Result<Reply, Refusal>
         ensures { result ≡ resolved_answer (view station.now) (mind self.now) from ask count }
     {
-        if usize::from(count) > MOST {
+        let under_way = self.is_under_way(station, from, ask);
+        if usize::from(count) > MOST || (under_way && count > self.wanted()) {
             return Err(Refusal::Malformed);
         }
         if !station.channels().is_other(from) {
             return Err(Refusal::NoSuchStation);
         }
-        if !self.is_under_way(station, from, ask) {
+        if !under_way {
             return Ok(Reply::Came(Outcome::Nothing));
-        }
-        if count > self.wanted() {
-            return Err(Refusal::Malformed);
         }
         Ok(Reply::Noted)
     }

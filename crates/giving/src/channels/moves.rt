@@ -48,11 +48,11 @@ impl Channels {
         ensures after { chans self.new ≡ after_hear self.old.me.0 (chans self.old) from.0 up_to.0 }
         ensures me { self.new.me ≡ self.old.me }
     {
-        if !self.is_other(from) {
-            return Err(Refusal::NoSuchStation);
-        }
         if !self.was_given(from, up_to) {
             return Err(Refusal::Malformed);
+        }
+        if !self.is_other(from) {
+            return Err(Refusal::NoSuchStation);
         }
         if !self.is_news(from, up_to) {
             return Ok(false);

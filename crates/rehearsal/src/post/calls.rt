@@ -5,12 +5,14 @@ ghost use Rattle.asking.specs.Replies.{lasting, minded, spoken, written, Scarce}
 ghost use Rattle.files.specs.Bytes.{AllSound, journal_bytes};
 ghost use Rattle.ledger.specs.Calls.{Filled, ShortOpen};
 ghost use Rattle.ledger.specs.Decisions.{Answer, after, decided_open, for_memory, listing, records};
+ghost use Rattle.rehearsal.specs.Comings.{event_in};
 ghost use Rattle.rehearsal.specs.Lives.{shown, mind_in};
 ghost use Rattle.rehearsal.specs.Restarts.{Restarted, FellIn, FellOpening, Unchanged};
 ghost use Rattle.timetable.specs.Tables.{table};
 
 use super::Post;
-use asking::event::{Event, Reply};
+use crate::coming::Coming;
+use asking::event::Reply;
 use files::whole::whole;
 use giving::message::Message;
 use giving::refusal::Refusal;
@@ -25,18 +27,27 @@ impl Post {
         &mut self,
         trains: &Timetable,
         out: &mut Vec<Message>,
-        event: Event,
+        coming: Coming<'_>,
     ) -> Result<Reply, Refusal>
         ensures state { shown self.new ≡ lasting (table trains.now) (shown self.old) result }
         ensures written { self.new.file.items ≡ self.old.file.items ++ journal_bytes (written (shown self.old) result) }
         ensures sound { AllSound (written (shown self.old) result) }
-        ensures mind { mind_in self.new ≡ minded (shown self.old) (mind_in self.old) event result }
-        ensures said { out.new.items ≡ out.old.items ++ spoken (table trains.now) (shown self.new) (mind_in self.new) event result }
+        ensures mind { mind_in self.new ≡ minded (shown self.old) (mind_in self.old) (event_in (shown self.old).me coming.entry) result }
+        ensures said { out.new.items ≡ out.old.items ++ spoken (table trains.now) (shown self.new) (mind_in self.new) (event_in (shown self.old).me coming.entry) result }
         ensures cut { self.new.cut ≡ self.old.cut }
-        ensures answer { for_memory result ≡ false → result ≡ resolved (table trains.now) (shown self.old) (mind_in self.old) event }
-        ensures memory { for_memory result ≡ true → Scarce (table trains.now) self.old.machine.station self.old.machine.records out.old self.old.machine.desk event (resolved (table trains.now) (shown self.old) (mind_in self.old) event) ⊎ Filled self.old.file 144 }
+        ensures answer { for_memory result ≡ false → result ≡ resolved (table trains.now) (shown self.old) (mind_in self.old) (event_in (shown self.old).me coming.entry) }
+        ensures memory { for_memory result ≡ true → Scarce (table trains.now) self.old.machine.station self.old.machine.records out.old self.old.machine.desk (event_in (shown self.old).me coming.entry) (resolved (table trains.now) (shown self.old) (mind_in self.old) (event_in (shown self.old).me coming.entry)) ⊎ Filled self.old.file 144 }
     {
-        self.machine.handle(trains, &mut self.file, out, event)
+        match coming {
+            Coming::Request(request) => {
+                self.machine
+                    .handle(trains, &mut self.file, out, request.into())
+            }
+            Coming::Bytes { from, bytes } => {
+                self.machine
+                    .receive(trains, &mut self.file, out, from, bytes)
+            }
+        }
     }
 
     pub fn open(&mut self, trains: &mut Timetable, row: Row) -> Result<Outcome, Refusal>
@@ -80,21 +91,21 @@ impl Post {
         Ok(())
     }
 
-    // The power is cut in the midst of what an event comes to, with so many bytes of it on the file: nothing of it is said or answered.
+    // The power is cut in the midst of what comes to a station, with so many bytes of it on the file: nothing of it is said or answered.
     pub fn fall(
         &mut self,
         heap: Global,
         trains: &Timetable,
         said: &mut Vec<Message>,
-        event: Event,
+        coming: Coming<'_>,
         bytes: u32,
     ) -> Result<(), AllocError>
-        ensures fell { FellIn (table trains.now) said.old self.old event bytes self.new result }
+        ensures fell { FellIn (table trains.now) said.old self.old (event_in (shown self.old).me coming.entry) bytes self.new result }
         ensures said { said.new.items ≡ said.old.items }
     {
         let before = self.file.len();
         let spoken = said.len();
-        let _ = self.handle(trains, said, event);
+        let _ = self.handle(trains, said, coming);
         said.truncate(spoken);
         self.restart(heap, trains, before + bytes as usize)
     }

@@ -1,5 +1,5 @@
 // Falls of stations, and the trains of one that lost its file.
-ghost use Rattle.std.specs.Prelude.{◌≡◌, ◌<◌, ◌≤◌, Err, Some, vec_len, MatchResult, MatchBool, slice_set};
+ghost use Rattle.std.specs.Prelude.{◌≡◌, ◌<◌, ◌≤◌, false, Err, Some, vec_len, MatchResult, MatchBool, slice_set};
 ghost use Rattle.giving.specs.declared.refusal.Refusal.TheVariants.{Malformed};
 ghost use Rattle.network.specs.Falls.{Moves};
 ghost use Rattle.rehearsal.specs.Seen.{seen, rows, count, cuts};
@@ -18,7 +18,8 @@ impl World {
     // The power of a station is cut between two steps.
     fn cut_at(&mut self, heap: Global, place: usize) -> Result<(), AllocError>
         requires { place < vec_len self.old.posts }
-        ensures steps { ∥ Moves (count self.old) (rows self.old) (seen self.old) (seen self.new) ∥₁ }
+        ensures steps { self.old.made_up ≡ false → ∥ Moves (count self.old) (rows self.old) (seen self.old) (seen self.new) ∥₁ }
+        ensures genuine { self.new.made_up ≡ self.old.made_up }
         ensures came { MatchResult result (λ _. Fallen self.old place (idle self.old place) 0 self.new) (λ _. Same self.old self.new) }
     {
         let bytes = self.posts[place].file.len();
@@ -27,7 +28,8 @@ impl World {
 
     // The power of a station is cut now; a cut that is to come is still to come. False where it is not there.
     pub fn cut(&mut self, heap: Global, who: StationId) -> Result<bool, AllocError>
-        ensures steps { ∥ Moves (count self.old) (rows self.old) (seen self.old) (seen self.new) ∥₁ }
+        ensures steps { self.old.made_up ≡ false → ∥ Moves (count self.old) (rows self.old) (seen self.old) (seen self.new) ∥₁ }
+        ensures genuine { self.new.made_up ≡ self.old.made_up }
         ensures came { MatchResult result
             (λ there. MatchBool there ((who.0 < count self.old) × Left self.old who.0 (cut_at 0 (idle self.old who.0)) self.new × (cuts self.new ≡ cuts self.old)) ((count self.old ≤ who.0) × Same self.old self.new))
             (λ _. (who.0 < count self.old) × Same self.old self.new) }
@@ -43,7 +45,8 @@ impl World {
 
     // The power of a station is to be cut when its next step has so many bytes on its file. False where it is not there.
     pub fn cut_next(&mut self, who: StationId, bytes: u32) -> bool
-        ensures { MatchBool result ((who.0 < count self.old) × Still self.old self.new × (cuts self.new ≡ slice_set (cuts self.old) who.0 (Some bytes))) ((count self.old ≤ who.0) × Same self.old self.new) }
+        ensures genuine { self.new.made_up ≡ self.old.made_up }
+        ensures came { MatchBool result ((who.0 < count self.old) × Still self.old self.new × (cuts self.new ≡ slice_set (cuts self.old) who.0 (Some bytes))) ((count self.old ≤ who.0) × Same self.old self.new) }
     {
         let Some(place) = self.place(who) else {
             return false;
@@ -59,7 +62,8 @@ impl World {
         who: StationId,
         other: StationId,
     ) -> Result<Option<Turn<Vec<Train>>>, AllocError>
-        ensures steps { ∥ Moves (count self.old) (rows self.old) (seen self.old) (seen self.new) ∥₁ }
+        ensures steps { self.old.made_up ≡ false → ∥ Moves (count self.old) (rows self.old) (seen self.old) (seen self.new) ∥₁ }
+        ensures genuine { self.new.made_up ≡ self.old.made_up }
         ensures came { WhereThere result ((count self.old ≤ who.0) × Same self.old self.new) (λ t. (who.0 < count self.old) × TurnedIdle self.old who.0 self.new (Lists self.old who.0 other) t) }
     {
         let Some(place) = self.place(who) else {
@@ -80,7 +84,8 @@ impl World {
         heap: Global,
         who: StationId,
     ) -> Result<Option<Turn<Outcome>>, AllocError>
-        ensures steps { ∥ Moves (count self.old) (rows self.old) (seen self.old) (seen self.new) ∥₁ }
+        ensures steps { self.old.made_up ≡ false → ∥ Moves (count self.old) (rows self.old) (seen self.old) (seen self.new) ∥₁ }
+        ensures genuine { self.new.made_up ≡ self.old.made_up }
         ensures came { WhereThere result ((count self.old ≤ who.0) × Same self.old self.new) (λ t. (who.0 < count self.old) × TurnedIdle self.old who.0 self.new (λ r. r ≡ Err Malformed) t) }
     {
         let Some(place) = self.place(who) else {

@@ -1,5 +1,5 @@
 use Rattle.std.proofs.Common.{arith}
-use Rattle.files.specs.Bytes.{AreBytes}
+use Rattle.lines.specs.Bytes.{AreBytes}
 use Rattle.files.proofs.Reached.{reached_end, reached_next, reached_start}
 use Rattle.files.proofs.whole.whole.Goals as goal
 

@@ -10,4 +10,4 @@ write_sold-requires c =
     omega (arith, room, length-seats p.train p.trip (seats_of p))
 
 pub returns-in-Taken-clause-items : goal.returns-in-Taken-clause-items
-returns-in-Taken-clause-items c = c.write_taken.ensures.items ∙ rw (c.given_message.ensures, c.in-Taken.is) refl
+returns-in-Taken-clause-items c = c.write_taken.ensures.items ∙ rw (c.given.ensures, c.in-Taken.is) refl

@@ -1,4 +1,4 @@
-use Rattle.std.proofs.Common.{◌≡◌, Some, None, ap, ◌∙◌}
+use Rattle.std.proofs.Common.{Some, None, ap, ◌∙◌}
 use Rattle.script.proofs.Commands.{deed-none, deed-words}
 use Rattle.script.proofs.Cuts.{next-word}
 use Rattle.script.specs.Lines.{deed_of}

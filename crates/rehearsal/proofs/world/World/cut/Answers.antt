@@ -10,21 +10,21 @@ use Rattle.rehearsal.specs.Turns.{idle}
 use Rattle.rehearsal.proofs.world.World.cut.Goals as goal
 
 pub returns-in_default-clause-steps : goal.returns-in_default-clause-steps
-returns-in_default-clause-steps c = ∣ none ∣₁
+returns-in_default-clause-steps c = λ _. ∣ none ∣₁
 
 pub invariant_of-self-clause-lives : goal.invariant_of-self-clause-lives
 invariant_of-self-clause-lives c =
     let w = c.args.self.now in
     let m = c.cut_at.new.self in
     let b : c.in-Some.place < length (vec_items m.posts) = omega (arith, c.in-Some.ensures.0, c.in-Some.ensures.1, fallen_count w m c.in-Some.place (idle w c.in-Some.place) 0 c.in_ok-cut_at.ensures.came) in
-    ∥∥₁_map m.lives (λ l. (rest_goes _ _ _ l c.in-Some.place c.index_mut.result.now _ b c.index_mut.ensures.value refl refl).0)
+    ∥∥₁_map m.lives (λ l. (rest_goes _ _ _ _ l c.in-Some.place c.index_mut.result.now _ b c.index_mut.ensures.value refl refl).0)
 
 pub returns-clause-steps : goal.returns-clause-steps
 returns-clause-steps c =
     let w = c.args.self.now in
     let m = c.cut_at.new.self in
     let p = c.index_mut.result.now in
-    ∥∥₁_map c.in_ok-cut_at.ensures.steps
+    λ g. ∥∥₁_map (c.in_ok-cut_at.ensures.steps g)
     (λ s. subst (Moves (count w) (rows w) (seen w)) (sym (same_site (vec_items m.posts) c.in-Some.place p (record p { cut = c.index.result.now.cut }) c.index_mut.ensures.value refl (vec_items m.said))) s)
 
 pub returns-clause-came : goal.returns-clause-came

@@ -9,10 +9,10 @@ use Rattle.rehearsal.proofs.world.World.cut_next.Goals as goal
 pub invariant_of-self-clause-lives : goal.invariant_of-self-clause-lives
 invariant_of-self-clause-lives c =
     let b : c.in-Some.place < length (vec_items c.args.self.now.posts) = omega (arith, c.in-Some.ensures.0, c.in-Some.ensures.1) in
-    ∥∥₁_map c.args.self.now.lives (λ l. (rest_goes _ _ _ l c.in-Some.place c.index_mut.result.now _ b c.index_mut.ensures.value refl refl).0)
+    ∥∥₁_map c.args.self.now.lives (λ l. (rest_goes _ _ _ _ l c.in-Some.place c.index_mut.result.now _ b c.index_mut.ensures.value refl refl).0)
 
-pub returns : goal.returns
-returns c =
+pub returns-clause-came : goal.returns-clause-came
+returns-clause-came c =
     let b : c.in-Some.place < length (vec_items c.args.self.now.posts) = omega (arith, c.in-Some.ensures.0, c.in-Some.ensures.1) in
     let w = c.args.self.now in
     let p = c.index_mut.result.now in

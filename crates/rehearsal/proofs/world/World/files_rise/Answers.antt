@@ -7,6 +7,6 @@ pub returns : goal.returns
 returns c =
     let w = c.args.self.now in
     λ k b. (
-      λ n. ∥∥₁_elim w.lives (Prim.hlevel props) (λ l. left_rises _ _ _ l k b n),
-      ∥∥₁_elim w.lives (Prim.hlevel props) (λ l. all_rises _ _ _ l k b),
+      λ n. ∥∥₁_elim w.lives (Prim.hlevel props) (λ l. left_rises _ _ _ _ l k b n),
+      ∥∥₁_elim w.lives (Prim.hlevel props) (λ l. all_rises _ _ _ _ l k b),
     )

@@ -29,4 +29,4 @@ returns-clause-one c =
     let u = c.args.at.stop.0 in
     let whole : s < 400 → vec_items c.loop-k.found ≡ places_of w t s u =
     λ h. c.loop-k.invariant.all h ∙ ap (λ (k : ℕ). gather k (spots_of w t s u)) (omega (arith, c.loop-k-test.false, c.loop-k.auto.k-end, c.stations-k-end.ensures)) in
-    λ r e o shut ls lu. ap length (whole (omega (arith, ls, r.few))) ∙ ∥∥₁_elim w.lives (ℕ_set _ _) (λ l. one_place _ _ _ l t r e o shut s u ls lu)
+    λ g r e o shut ls lu. ap length (whole (omega (arith, ls, r.few))) ∙ ∥∥₁_elim w.lives (ℕ_set _ _) (λ l. one_place _ _ _ _ l g t r e o shut s u ls lu)

@@ -1,4 +1,4 @@
-use Rattle.std.proofs.Common.{ℕ, vec_items, sym, refl, ap, ◌∙◌, subst, arith}
+use Rattle.std.proofs.Common.{ℕ, false, vec_items, sym, refl, ap, ◌∙◌, subst, arith}
 use Rattle.rehearsal.proofs.Begun.{begun_next, begun_lives}
 use Rattle.rehearsal.specs.Lives.{Lives}
 use Rattle.state.specs.States.{begun}
@@ -11,4 +11,4 @@ loop-k-preserved c =
 
 pub invariant_of-result-clause-lives : goal.invariant_of-result-clause-lives
 invariant_of-result-clause-lives c =
-    ∣ subst (λ ms. Lives (table c.new-2.result) (vec_items c.loop-k.posts) ms) (sym c.new-3.ensures.items) (begun_lives (table c.new-2.result) c.args.stations (vec_items c.loop-k.posts) (omega (arith, c.loop-k.invariant.0)) c.loop-k.invariant.1) ∣₁
+    ∣ subst (λ ms. Lives (table c.new-2.result) (vec_items c.loop-k.posts) ms false) (sym c.new-3.ensures.items) (begun_lives (table c.new-2.result) c.args.stations (vec_items c.loop-k.posts) (omega (arith, c.loop-k.invariant.0)) c.loop-k.invariant.1) ∣₁

@@ -1,8 +1,9 @@
 use mathlib.Core.Logic.{∥∥₁_map, ∥∥₁_elim}
-use Rattle.std.proofs.Common.{◌≡◌, ◌<◌, ◌++◌, List, set, vec_items, Ok, Result, refl, ap, ◌∙◌, arith}
+use Rattle.std.proofs.Common.{◌≡◌, ◌<◌, ◌++◌, List, set, vec_items, Ok, Result, refl, ap, ◌∙◌, arith, rules}
 use Rattle.std.proofs.Props.{props}
 use Rattle.ledger.specs.Decisions.{after, listing, records}
 use Rattle.ledger.specs.declared.input.Outcome.{Outcome}
+use Rattle.recovery.specs.Runs.{TypedRow}
 use Rattle.rehearsal.proofs.Fallen.{behind}
 use Rattle.rehearsal.proofs.Goings.{opening_goes, opening_left}
 use Rattle.rehearsal.proofs.Living.{Goes, opening_extends}
@@ -23,11 +24,12 @@ use Rattle.rehearsal.proofs.world.World.open_at.Goals as goal
 use Rattle.rehearsal.proofs.world.World.open_at.Goals.{After-open-outcome, After-fall_opening}
 
 -- the station's answer
-opened : (c : After-open-outcome) → ∥ Goes (table c.open-outcome.new.trains) (vec_items c.args.self.now.posts) (vec_items c.args.self.now.said) (set (vec_items c.args.self.now.posts) c.args.place c.open-outcome.new.self) (vec_items c.args.self.now.said) ∥₁
+opened : (c : After-open-outcome) → ∥ Goes (table c.open-outcome.new.trains) (vec_items c.args.self.now.posts) (vec_items c.args.self.now.said) c.args.self.now.made_up (set (vec_items c.args.self.now.posts) c.args.place c.open-outcome.new.self) (vec_items c.args.self.now.said) ∥₁
 opened c =
     let z = c.open-outcome.ensures in
+    let t : TypedRow c.args.row = search rules in
     ∥∥₁_map c.args.self.now.lives
-    (λ l. opening_goes _ _ _ l c.args.place c.index_mut.result.now c.open-outcome.new.self (omega arith) c.index_mut.ensures.value c.args.row (table c.open-outcome.new.trains) c.open-outcome.result z.listed z.sound z.written z.state z.answer)
+    (λ l. opening_goes _ _ _ _ l c.args.place c.index_mut.result.now c.open-outcome.new.self (omega arith) c.index_mut.ensures.value c.args.row t (table c.open-outcome.new.trains) c.open-outcome.result z.listed z.sound z.written z.state z.answer)
 
 pub invariant_of-self-clause-lives : goal.invariant_of-self-clause-lives
 invariant_of-self-clause-lives c = ∥∥₁_map (opened (goal.at.invariant_of-self-clause-lives c).After-open-outcome) (λ g. g.0)
@@ -46,9 +48,10 @@ returns-in_default c =
     let r = c.args.row in
     let z = c.open-outcome.ensures in
     let j : journal_of q ≡ journal_of p ++ records o =
-    ∥∥₁_elim w.lives (Prim.hlevel props) (λ l. behind _ _ _ l i p q b e (listing (rows w) r o) (opening_extends _ _ _ l i p b e r o z.answer) _ z.sound z.written) in
+    ∥∥₁_elim w.lives (Prim.hlevel props) (λ l. behind _ _ _ _ l i p q b e (listing (rows w) r o) (opening_extends _ _ _ _ l i p b e r o z.answer) _ z.sound z.written) in
     record {
-      steps = ∥∥₁_map (opened (goal.at.returns-in_default c).After-open-outcome) (λ g. g.1);
+      steps = λ g. ∥∥₁_map (opened (goal.at.returns-in_default c).After-open-outcome) (λ x. x.1 g);
+      genuine = refl;
       came = (
         cut_is ps i c.index.result.now b c.index.ensures ∙ c.in_default.is,
         record {
@@ -77,10 +80,11 @@ module _ (c : After-fall_opening) where
   there : c.args.place < count w
   there = omega arith
 
-  left : ∥ Goes ub (vec_items w.posts) (vec_items w.said) next (vec_items w.said) ∥₁
+  left : ∥ Goes ub (vec_items w.posts) (vec_items w.said) w.made_up next (vec_items w.said) ∥₁
   left =
+      let t : TypedRow c.args.row = search rules in
       ∥∥₁_map w.lives
-      (λ l. opening_left _ _ _ l c.args.place c.index_mut-2.result.now c.fall_opening.new.self there c.index_mut-2.ensures.value c.args.row ub _ _ c.fall_opening.ensures)
+      (λ l. opening_left _ _ _ _ l c.args.place c.index_mut-2.result.now c.fall_opening.new.self there c.index_mut-2.ensures.value c.args.row t ub _ _ c.fall_opening.ensures)
 
   came : (v : Code) → vec_items v.posts ≡ next → vec_items v.said ≡ vec_items w.said → ub ≡ rows v → (o : Result (Turn Outcome) AllocError) → Ends c.fall_opening.result o → TurnedOpen w c.args.place c.args.row v o
   came v put said t =
@@ -93,7 +97,7 @@ invariant_of-self-2-clause-lives c = ∥∥₁_map (left (goal.at.invariant_of-s
 pub returns-in_err-fall_opening : goal.returns-in_err-fall_opening
 returns-in_err-fall_opening c =
     let s = (goal.at.returns-in_err-fall_opening c).After-fall_opening in
-    record { steps = ∥∥₁_map (left s) (λ g. g.1); came = came s _ refl refl refl c.from_residual.result (rw c.in_err-fall_opening.was c.from_residual.ensures.0) }
+    record { steps = λ g. ∥∥₁_map (left s) (λ x. x.1 g); genuine = refl; came = came s _ refl refl refl c.from_residual.result (rw c.in_err-fall_opening.was c.from_residual.ensures.0) }
 
 pub returns : goal.returns
-returns c = let s = (goal.at.returns c).After-fall_opening in record { steps = ∥∥₁_map (left s) (λ g. g.1); came = came s _ refl refl refl (Ok Fell) (rw c.in_ok-fall_opening.was refl) }
+returns c = let s = (goal.at.returns c).After-fall_opening in record { steps = λ g. ∥∥₁_map (left s) (λ x. x.1 g); genuine = refl; came = came s _ refl refl refl (Ok Fell) (rw c.in_ok-fall_opening.was refl) }

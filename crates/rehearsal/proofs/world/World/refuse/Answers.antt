@@ -2,7 +2,7 @@ use Rattle.network.specs.Falls.{none}
 use Rattle.rehearsal.proofs.world.World.refuse.Goals as goal
 
 pub returns-in_default-clause-steps : goal.returns-in_default-clause-steps
-returns-in_default-clause-steps c = ∣ none ∣₁
+returns-in_default-clause-steps c = λ _. ∣ none ∣₁
 
 pub returns-clause-steps : goal.returns-clause-steps
-returns-clause-steps c = ∣ none ∣₁
+returns-clause-steps c = λ _. ∣ none ∣₁

@@ -20,7 +20,7 @@ returns c =
     let u = c.args.at.stop.0 in
     let b : i < length ps = omega arith in
     let xs = vec_items c.args.found.now in
-    let held : s < 400 → c.holds_stretch.result ≡ holding t s u (state_of w i) = λ l. c.holds_stretch.ensures ∙ held_at _ ps _ w.lives t s u l i c.post.result.now b c.post.ensures in
+    let held : s < 400 → c.holds_stretch.result ≡ holding t s u (state_of w i) = λ l. c.holds_stretch.ensures ∙ held_at _ ps _ _ w.lives t s u l i c.post.result.now b c.post.ensures in
     let first : s < 400 → vec_items c.if-holds_stretch.found ≡ xs ++ cond (holding t s u (state_of w i)) (Held c.args.who ∷ []) [] =
     λ l. elim c.if-holds_stretch.branch [
       | then-holds_stretch+in_ok-push v ↦ found_then _ xs _ _ (sym (held l) ∙ v.if-holds_stretch.true) (ap (λ x. vec_items x) v.found-is ∙ v.in_ok-push.ensures.items)
@@ -37,5 +37,5 @@ returns c =
     ∙ ap (λ (n : ℕ). vec_items c.if-holds_stretch.found ++ replicate n (Sold c.args.who)) (c.count_sold.ensures ∙ ap (λ x. count_in t s u (standing x.tickets)) (sym (here_is ps i c.post.result.now b c.post.ensures))) in
     record {
       all = IfOk-weaker c.ways.result _ _ (λ _ h l. found_three xs _ _ _ _ _ _ (first l) second h) c.ways.ensures;
-      none = IfOk-weaker c.ways.result _ _ (λ _ h l. found_nothing xs _ _ _ _ _ (same l) second h (ap (λ (n : ℕ). replicate n (Sold c.args.who)) (sold_none t s u l _ ps _ w.lives i b)) (ways_none t s u l _ ps _ w.lives i b)) c.ways.ensures;
+      none = IfOk-weaker c.ways.result _ _ (λ _ h l. found_nothing xs _ _ _ _ _ (same l) second h (ap (λ (n : ℕ). replicate n (Sold c.args.who)) (sold_none t s u l _ ps _ _ w.lives i b)) (ways_none t s u l _ ps _ _ w.lives i b)) c.ways.ensures;
     }

@@ -1,10 +1,10 @@
 -- Numbers, as they are written and read.
 use Rattle.std.proofs.Common.{◌≡◌, ℕ, ◌^◌, ◌<◌, Bool, true, false, cond, ltb, List, [], ◌∷◌, ◌++◌, length, take, drop, Ok, Err, refl, sym, ap, subst, ◌∙◌, arith}
 use Rattle.std.specs.Int.{Width, w16, w32, byte_len, from_be_bytes, to_be_bytes}
-use Rattle.files.specs.Bytes.{AreBytes, long}
-use Rattle.files.specs.Reading.{byte, front, number, word}
-use Rattle.files.specs.declared.fault.Fault.TheVariants.{Cut}
-use Rattle.files.proofs.Layouts.{Layout, checked_layout, ok_is}
+use Rattle.lines.specs.Bytes.{AreBytes, long, short as short_bytes}
+use Rattle.lines.specs.Fields.{byte, front, half, number, word}
+use Rattle.lines.specs.declared.fault.Fault.TheVariants.{Cut}
+use Rattle.lines.proofs.Layouts.{Layout, checked_layout, ok_is}
 use Rattle.std.proofs.lemmas.Bool.{ltb-false, le-ltb, lt-ltb}
 use Rattle.std.proofs.lemmas.List.{drop_at, length-append, length-take, length-take-le, take-append-drop, take_at}
 use Rattle.std.proofs.lemmas.Nat.{be_bytes_2, be_bytes_4, from_be_bytes-to_be_bytes_2, from_be_bytes-to_be_bytes_4}
@@ -56,5 +56,5 @@ number_layout w limit len back again below =
 pub word_layout : Layout word long (λ n. n < 2 ^ 32)
 word_layout = number_layout w32 (2 ^ 32) (λ n. refl) (λ bs l h. be_bytes_4 bs _ l h refl) from_be_bytes-to_be_bytes_4 (λ bs h. omega (arith, h 0, h 1, h 2, h 3))
 
-pub short_layout : Layout (number w16) (to_be_bytes w16) (λ n. n < 2 ^ 16)
-short_layout = number_layout w16 (2 ^ 16) (λ n. refl) (λ bs l h. be_bytes_2 bs _ l h refl) from_be_bytes-to_be_bytes_2 (λ bs h. omega (arith, h 0, h 1))
+pub half_layout : Layout half short_bytes (λ n. n < 2 ^ 16)
+half_layout = number_layout w16 (2 ^ 16) (λ n. refl) (λ bs l h. be_bytes_2 bs _ l h refl) from_be_bytes-to_be_bytes_2 (λ bs h. omega (arith, h 0, h 1))

@@ -1,9 +1,9 @@
 -- A reader of what has one layout as bytes, and readers made of such.
 use Rattle.std.proofs.Common.{◌≡◌, ℕ, zero, suc, ◌-◌, ◌<◌, ◌≤◌, List, [], ◌∷◌, ◌++◌, length, take, Result, Ok, Err, refl, sym, ap, subst, ◌∙◌, append_assoc, arith, inl, inr}
-use Rattle.files.specs.Bytes.{AreBytes}
-use Rattle.files.specs.Reading.{◌>>=◌, Reader, checked, then}
-use Rattle.files.specs.declared.fault.Fault.{Fault}
-use Rattle.files.specs.declared.fault.Fault.TheVariants.{Cut}
+use Rattle.lines.specs.Bytes.{AreBytes}
+use Rattle.lines.specs.Fields.{◌>>=◌, Reader, checked, then}
+use Rattle.lines.specs.declared.fault.Fault.{Fault}
+use Rattle.lines.specs.declared.fault.Fault.TheVariants.{Cut}
 use Rattle.std.proofs.lemmas.Bool.{cases_lt}
 use Rattle.std.proofs.lemmas.List.{length-append, take-append-le}
 use Rattle.std.proofs.Math.Seq.{take-append-add}

@@ -1,0 +1,4 @@
+pub mod Incoming
+pub mod Grounds
+pub mod Verdicts
+pub mod Laws

@@ -1,0 +1,4 @@
+pub mod Narrow
+pub mod Said
+pub mod Packets
+pub mod Lives

@@ -1,0 +1,3 @@
+pub mod Minds
+pub mod Nets
+pub mod Laws
