@@ -1,12 +1,12 @@
 -- What is printed of answers.
-use Rattle.std.specs.Prelude.{ℕ, cond, List, ◌++◌, length, codes, ◌==◌, Ok, Err}
+use Rattle.std.specs.Prelude.{ℕ, cond, List, ◌++◌, length, codes, ◌==◌, Ok}
 use Rattle.std.specs.Fmt.{decimal}
 use Rattle.asking.specs.Events.{Response}
-use Rattle.asking.specs.declared.event.Reply.TheVariants.{Came, Asks, Noted, Ticked}
+use Rattle.asking.specs.declared.event.Reply.TheVariants.{Came, Asks, Ticked}
 use Rattle.choosing.specs.Parties as party
 use Rattle.choosing.specs.Parties.{seats_of}
 use Rattle.ledger.specs.declared.input.Outcome.{Outcome}
-use Rattle.ledger.specs.declared.input.Outcome.TheVariants.{Done, Gave, Nothing, Passed}
+use Rattle.ledger.specs.declared.input.Outcome.TheVariants.{Done, Gave}
 use Rattle.receiving.specs.Verdicts.{verdict_of, verdict_text}
 use Rattle.state.specs.declared.record.Record.TheVariants.{Opened, Closed, Sold, Undone}
 

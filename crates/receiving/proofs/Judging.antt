@@ -1,12 +1,12 @@
 -- What comes over a line is judged as the table says, kind by kind.
-use Rattle.std.proofs.Common.{◌≡◌, ℕ, ◌+◌, ◌≤◌, Bool, true, false, cond, not, ◌&&◌, ◌||◌, eqb, leb, ltb, ◌⊎◌, inl, inr, Option, Some, None, is_some, length, Ok, Err, Result, refl, sym, ap, subst, ◌∙◌, arith}
+use Rattle.std.proofs.Common.{◌≡◌, ℕ, ◌+◌, Bool, true, false, not, ◌&&◌, ◌||◌, eqb, leb, ltb, Option, Some, None, length, Ok, Err, refl, ap, arith}
 use Rattle.asking.specs.Events.{Response, resolved, under_way}
 use Rattle.asking.specs.Minds.{Mind, wanted}
 use Rattle.asking.specs.Told.{sensible}
 use Rattle.choosing.specs.Parties.{seats_of, some}
 use Rattle.choosing.specs.declared.party.Party.{Party}
 use Rattle.giving.specs.Calls.{givable}
-use Rattle.giving.specs.Channels.{line, news, other, unanswered}
+use Rattle.giving.specs.Channels.{line, other, unanswered}
 use Rattle.giving.specs.declared.ids.Ask.{Ask}
 use Rattle.giving.specs.declared.ids.Number.{Number}
 use Rattle.giving.specs.declared.ids.StationId.{StationId}
@@ -15,7 +15,6 @@ use Rattle.giving.specs.declared.message.Body.TheVariants.{Given, Taken, Asked, 
 use Rattle.ledger.specs.declared.input.Input.TheVariants.{Grant}
 use Rattle.asking.specs.Events as event
 use Rattle.ledger.specs.Decisions as ledger
-use Rattle.lines.specs.declared.fault.Fault.{Fault}
 use Rattle.pieces.specs.Parts.{trip_from, trip_if}
 use Rattle.pieces.specs.declared.demand.Demand.{Demand}
 use Rattle.pieces.specs.declared.names.Stop.{Stop}

@@ -7,7 +7,7 @@ use Rattle.giving.specs.declared.ids.StationId.{StationId}
 use Rattle.giving.specs.declared.message.Body.{Body}
 use Rattle.giving.specs.declared.refusal.Refusal.{Refusal}
 use Rattle.lines.specs.declared.fault.Fault.{Fault}
-use Rattle.receiving.specs.Grounds.{applies, lowest}
+use Rattle.receiving.specs.Grounds.{lowest}
 use Rattle.receiving.specs.Incoming.{event_read}
 use Rattle.receiving.specs.Verdicts.{judged, verdict_of}
 use Rattle.state.specs.States.{State}

@@ -1,15 +1,12 @@
 -- One station alone: what it sold and gave was held, and whatever comes, it goes on.
-use Rattle.std.proofs.Common.{◌≡◌, ℕ, ◌+◌, ◌<◌, ◌^◌, Bool, true, false, cond, ltb, List, [], ◌∷◌, ◌++◌, fold, Ok, Err, Result, refl, sym, ap, subst, ◌∙◌, arith}
-use Rattle.asking.specs.Events.{event_of, resolved}
-use Rattle.asking.specs.Minds.{Mind}
-use Rattle.asking.specs.Replies.{minded, spoken, written}
+use Rattle.std.proofs.Common.{◌≡◌, ℕ, ◌<◌, Bool, true, false, cond, ltb, List, [], ◌∷◌, fold, Ok, Err, Result, refl, sym, ◌∙◌, arith}
+use Rattle.asking.specs.Events.{event_of}
+use Rattle.asking.specs.Replies.{minded, spoken}
 use Rattle.asking.specs.declared.event.Event.{Event}
 use Rattle.asking.specs.declared.event.Event.TheVariants.{Call, Answered as WasAnswered, Told as WasTold, Tick, Garbled}
-use Rattle.giving.specs.Others.{other_of}
 use Rattle.giving.specs.declared.ids.StationId.{StationId}
 use Rattle.giving.specs.declared.message.Body.{Body}
 use Rattle.giving.specs.declared.message.Body.TheVariants.{Given as WasGiven, Taken as WasTaken, Asked as WasAsked, Answered, Told}
-use Rattle.giving.specs.declared.refusal.Refusal.{Refusal}
 use Rattle.lines.specs.Bytes.{AreBytes, SoundBody}
 use Rattle.lines.specs.Laws as lines
 use Rattle.lines.specs.Reading.{message}
@@ -18,12 +15,11 @@ use Rattle.network.proofs.Fine.{fine_first}
 use Rattle.network.proofs.Held.{Sound, in_out, in_out_all}
 use Rattle.network.proofs.Local.{fits_given, fits_sold}
 use Rattle.network.proofs.Moves.{sound_next}
-use Rattle.pieces.specs.declared.piece.Piece.{Piece}
 use Rattle.network.proofs.Count.{count_cons, count_nil}
 use Rattle.receiving.specs.Incoming.{event_read, incoming, sender}
-use Rattle.recovery.proofs.Journals.{did_stands, fit_front, fit_join}
+use Rattle.recovery.proofs.Journals.{did_stands, fit_join}
 use Rattle.recovery.specs.Alone.{Alone, GoesOn, OnlyHeld, TakesHeld, TurnsAway}
-use Rattle.recovery.specs.Runs.{Did, Typed, handled, led}
+use Rattle.recovery.specs.Runs.{Typed, handled, led}
 use Rattle.state.proofs.Opens.{listed_seat}
 use Rattle.state.specs.Changes.{all_fit, apply, fits}
 use Rattle.state.specs.States.{State, begun}

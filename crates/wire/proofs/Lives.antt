@@ -5,7 +5,7 @@ use mathlib.Core.List.{Memᴰ}
 use Rattle.asking.specs.Events.{event_of}
 use Rattle.asking.specs.Minds.{Mind}
 use Rattle.asking.specs.declared.event.Event.{Event}
-use Rattle.asking.specs.declared.event.Event.TheVariants.{Call, Answered, Told}
+use Rattle.asking.specs.declared.event.Event.TheVariants.{Call}
 use Rattle.giving.specs.Others.{other_of}
 use Rattle.giving.specs.declared.ids.StationId.{StationId}
 use Rattle.giving.specs.declared.message.Body.{Body}
@@ -13,7 +13,6 @@ use Rattle.giving.specs.declared.message.Body.TheVariants as body
 use Rattle.giving.specs.declared.message.Message.{Message}
 use Rattle.ledger.specs.Decisions.{decided_open, listing, records}
 use Rattle.ledger.specs.declared.input.Input.TheVariants.{Take, Hear}
-use Rattle.lines.specs.Bytes.{SoundBody}
 use Rattle.lines.specs.Reading.{message}
 use Rattle.network.proofs.Bridge.{all_append, runs}
 use Rattle.network.proofs.Grow.{grows}

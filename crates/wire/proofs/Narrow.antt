@@ -1,6 +1,6 @@
 -- The numbers of a station's state fit their types.
 -- Assumes nothing.
-use Rattle.std.proofs.Common.{◌≡◌, ℕ, ◌+◌, ◌-◌, ◌<◌, ◌≤◌, ◌^◌, true, ◌⊎◌, List, [], ◌∷◌, length, set, cond, Some, None, Option, fold, refl, ⊎_elim, arith, length-append, length-drop}
+use Rattle.std.proofs.Common.{◌≡◌, ℕ, ◌+◌, ◌-◌, ◌<◌, ◌≤◌, ◌^◌, true, List, [], ◌∷◌, length, set, cond, Some, None, Option, fold, refl, ⊎_elim, arith, length-append, length-drop}
 use Rattle.choosing.specs.declared.party.Party.{Party}
 use Rattle.files.specs.Bytes.{AllSound, Sound}
 use Rattle.giving.specs.Channels.{Chan, declined, fresh, gave, heard_to, line, took}

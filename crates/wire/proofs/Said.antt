@@ -1,6 +1,6 @@
 -- What a station says has bytes: each of its numbers fits.
 -- Assumes nothing.
-use Rattle.std.proofs.Common.{◌≡◌, ℕ, suc, ◌+◌, ◌-◌, ◌*◌, ◌<◌, ◌≤◌, ◌^◌, true, false, not, eqb, leb, ◌||◌, List, [], ◌∷◌, ◌++◌, length, drop, Some, None, Option, Ok, Err, fold, sym, refl, ◌∙◌, subst, arith, length-take}
+use Rattle.std.proofs.Common.{◌≡◌, ℕ, suc, ◌*◌, ◌<◌, ◌≤◌, ◌^◌, true, false, not, eqb, leb, ◌||◌, List, [], ◌∷◌, ◌++◌, length, drop, Some, None, Option, Ok, Err, fold, sym, refl, ◌∙◌, subst, arith, length-take}
 use Rattle.asking.proofs.Listed.{Listed, trains_each}
 use Rattle.asking.proofs.OrderRises.{each_by}
 use Rattle.asking.specs.Events.{Response, resolved}
