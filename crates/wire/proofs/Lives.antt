@@ -37,7 +37,7 @@ use Rattle.wire.proofs.Packets.{Genuine, genuine_all, genuine_one, reads, said_m
 use Rattle.wire.proofs.Said.{Fine, says_sound}
 use Rattle.wire.specs.Laws.{IsReached, OverBytes, SaidIsRead}
 use Rattle.wire.specs.Minds.{TypedMind}
-use Rattle.wire.specs.Nets.{Deed, Lived, Net, Own, Packet, handles, receives, opens, begins, does, falls, grows as widens, journal_in, packet, quiet, said_in, sent_in, site_of, spoken_of, state_in, world_of, wrote_in, written_of}
+use Rattle.wire.specs.Nets.{Act, Lived, Net, Own, Packet, handles, receives, opens, begins, does, falls, grows as widens, journal_in, packet, quiet, said_in, sent_in, site_of, spoken_of, state_in, world_of, wrote_in, written_of}
 
 -- ---- what is kept
 
@@ -80,7 +80,7 @@ heeds_own ms i (Call (Take from m p)) h = absurd h
 heeds_own ms i (Call (Hear from m)) h = absurd h
 heeds_own ms i e h = tt
 
--- ---- a deed
+-- ---- an act
 
 module _ (n : ℕ) (small : n ≤ 256) (tb : Table) (net : Net) (ok : Stands n tb net) (i : ℕ) (l : i < n) where
   there : i < length net.journals
@@ -93,7 +93,7 @@ module _ (n : ℕ) (small : n ≤ 256) (tb : Table) (net : Net) (ok : Stands n t
   abbrev world_after : List Record → List Message → World
   world_after es ms = record { journals = js es; said = said_in net.sent ++ ms }
 
-  -- what a deed comes to
+  -- what an act comes to
   record Done (es : List Record) (ms : List Message) (ub : Table) : Type 0 where
     grown : Extends tb ub
     did : Did n i ub (journal_in net i ++ es)
@@ -136,12 +136,12 @@ module _ (n : ℕ) (small : n ≤ 256) (tb : Table) (net : Net) (ok : Stands n t
         subst (λ k. HeedsAll (said_in net.sent) k (event_of x.from x.body)) mine (heeds_body (said_in net.sent) x.from x.to x.body (said_one n h g)),
       )
 
-  deed_done : {es : List Record} {ms : List Message} {ub : Table} → Deed n tb net i es ms ub → Done es ms ub
-  deed_done (handles m t e y o) = handled_done m e t y (heeds_own (said_in net.sent) i e o)
-  deed_done (receives m t p h to) =
+  act_done : {es : List Record} {ms : List Message} {ub : Table} → Act n tb net i es ms ub → Done es ms ub
+  act_done (handles m t e y o) = handled_done m e t y (heeds_own (said_in net.sent) i e o)
+  act_done (receives m t p h to) =
       let (e, is, y, g) = received p h to in
       subst (λ e. Done (written_of tb (state_in n tb net i) m e) (spoken_of tb (state_in n tb net i) m e) tb) (sym is) (handled_done m e t y g)
-  deed_done (opens r t) = opened_done r t
+  act_done (opens r t) = opened_done r t
 
   module _ (es fs : List Record) (ms : List Message) (ub : Table) (d : Done (es ++ fs) ms ub) where
     wrote_did : (k : ℕ) → k < n → Did n k ub (journal_in (wrote_in net i es) k)
@@ -180,8 +180,8 @@ module _ (n : ℕ) (small : n ≤ 256) (tb : Table) (net : Net) (ok : Stands n t
 
 pub stands : (n : ℕ) → n ≤ 256 → {tb : Table} {net : Net} → Lived n tb net → Stands n tb net
 stands n s (begins tb) = stands_first n tb
-stands n s (does {tb} {ub} {net} {es} {ms} v i l d) = let ok = stands n s v in whole n s tb net ok i l es ms ub (deed_done n s tb net ok i l d)
-stands n s (falls {tb} {ub} {net} {ms} v i l es fs d) = let ok = stands n s v in fallen n s tb net ok i l es fs ms ub (deed_done n s tb net ok i l d)
+stands n s (does {tb} {ub} {net} {es} {ms} v i l d) = let ok = stands n s v in whole n s tb net ok i l es ms ub (act_done n s tb net ok i l d)
+stands n s (falls {tb} {ub} {net} {ms} v i l es fs d) = let ok = stands n s v in fallen n s tb net ok i l es fs ms ub (act_done n s tb net ok i l d)
 stands n s (widens {tb} {net} ub ext v) =
     let ok = stands n s v in
     record { count = ok.count; genuine = ok.genuine; did = λ k l. grew ub ext (ok.did k l); reached = (grows n tb ub (site_of net) ext ok.reached).0 }

@@ -80,19 +80,19 @@ abbrev pub spoken_of : Table → State → Mind → Event → List Message
 spoken_of tb s m e = spoken tb (lasting tb s (resolved tb s m e)) (minded s m e (resolved tb s m e)) e (resolved tb s m e)
 
 -- Station i, whatever it has in mind, writes these records, says these messages, and the timetable is then this. What it has in mind is gone when it falls.
-pub data Deed (n : ℕ) (tb : Table) (net : Net) (i : ℕ) : List Record → List Message → Table → Type 0 where
-  handles : (m : Mind) → TypedMind m → (e : Event) → Typed e → Own e → Deed n tb net i (written_of tb (state_in n tb net i) m e) (spoken_of tb (state_in n tb net i) m e) tb
+pub data Act (n : ℕ) (tb : Table) (net : Net) (i : ℕ) : List Record → List Message → Table → Type 0 where
+  handles : (m : Mind) → TypedMind m → (e : Event) → Typed e → Own e → Act n tb net i (written_of tb (state_in n tb net i) m e) (spoken_of tb (state_in n tb net i) m e) tb
   receives : (m : Mind) → TypedMind m → (p : Packet) → Memᴰ p net.sent → p.to.0 ≡ i →
-      Deed n tb net i (written_of tb (state_in n tb net i) m (incoming i p.from.0 p.bytes)) (spoken_of tb (state_in n tb net i) m (incoming i p.from.0 p.bytes)) tb
-  opens : (r : Row) → TypedRow r → Deed n tb net i (records (decided_open tb (state_in n tb net i) r)) [] (listing tb r (decided_open tb (state_in n tb net i) r))
+      Act n tb net i (written_of tb (state_in n tb net i) m (incoming i p.from.0 p.bytes)) (spoken_of tb (state_in n tb net i) m (incoming i p.from.0 p.bytes)) tb
+  opens : (r : Row) → TypedRow r → Act n tb net i (records (decided_open tb (state_in n tb net i) r)) [] (listing tb r (decided_open tb (state_in n tb net i) r))
 
 -- What n stations can come to: one of them does something, and has synced what it writes before it says anything; or the power is cut in the midst of it,
--- when some first of the records are on its file, and nothing is said. Between deeds all that a station wrote is on its file,
+-- when some first of the records are on its file, and nothing is said. Between acts all that a station wrote is on its file,
 -- and a fall changes nothing here. A message that a fall keeps from being sent is a packet that never comes.
 pub data Lived (n : ℕ) : Table → Net → Type 0 where
   begins : (tb : Table) → Lived n tb (quiet n)
-  does : {tb ub : Table} {net : Net} {es : List Record} {ms : List Message} → Lived n tb net → (i : ℕ) → i < n → Deed n tb net i es ms ub → Lived n ub (sent_in (wrote_in net i es) ms)
-  falls : {tb ub : Table} {net : Net} {ms : List Message} → Lived n tb net → (i : ℕ) → i < n → (es fs : List Record) → Deed n tb net i (es ++ fs) ms ub → Lived n ub (wrote_in net i es)
+  does : {tb ub : Table} {net : Net} {es : List Record} {ms : List Message} → Lived n tb net → (i : ℕ) → i < n → Act n tb net i es ms ub → Lived n ub (sent_in (wrote_in net i es) ms)
+  falls : {tb ub : Table} {net : Net} {ms : List Message} → Lived n tb net → (i : ℕ) → i < n → (es fs : List Record) → Act n tb net i (es ++ fs) ms ub → Lived n ub (wrote_in net i es)
   grows : {tb : Table} {net : Net} (ub : Table) → Extends tb ub → Lived n tb net → Lived n ub net
 
 -- ---- the world that it is
