@@ -1,15 +1,16 @@
 -- A party that is given its seats, one person after the other. Assumes nothing.
-use Rattle.std.proofs.Common.{◌≡◌, ℕ, ◌+◌, ◌<◌, ◌≤◌, eqb, List, [], ◌∷◌, ◌++◌, length, get_or, set, take, Some, None, Option, sym, ap, ◌∙◌, ⊎_elim, arith}
+use Rattle.std.proofs.Common.{◌≡◌, ℕ, ◌+◌, ◌*◌, ◌<◌, ◌≤◌, eqb, List, [], ◌∷◌, ◌++◌, length, get_or, set, take, drop, Some, None, Option, sym, ap, ◌∙◌, ⊎_elim, arith}
 use Rattle.choosing.specs.Choice.{beside, chosen, drawn_all, group}
 use Rattle.choosing.specs.Parties.{party_of, seats_of}
 use Rattle.choosing.specs.declared.party.Party.{Party}
 use Rattle.choosing.proofs.Groups.{group_cong, group_ends, group_more}
 use Rattle.choosing.proofs.Parties.{party_seats}
+use Rattle.pieces.specs.Memory.{word_at}
 use Rattle.pieces.specs.declared.names.Seat.{Seat}
 use Rattle.pieces.specs.declared.names.Train.{Train}
 use Rattle.pieces.specs.declared.trip.Trip.{Trip}
 use Rattle.std.proofs.lemmas.Bool.{cases_eq, cond-true, cond-false, eq-eqb, ne_eqb}
-use Rattle.std.proofs.lemmas.List.{length_push, length-take-le, get_or-set_same, get_or-set_other, get_or-take}
+use Rattle.std.proofs.lemmas.List.{length_push, length-take-le, length-drop, get_or-set_same, get_or-set_other, get_or-take, get_or-drop}
 
 -- k people have a seat each, by the rule
 abbrev pub Seated : (z : Train) (t : Trip) (f : ℕ → ℕ) (n k : ℕ) → Party → Type 0
@@ -42,6 +43,13 @@ pub group_first : (xs : List ℕ) (f : ℕ → ℕ) (m n a b : ℕ) → n ≤ le
     → group m (λ (i : ℕ). get_or (take n xs) i 0) (length (take n xs)) a b ≡ group m f n a b
 group_first xs f m n a b h e =
     rw (length-take-le n xs h) (group_cong m (λ (i : ℕ). get_or (take n xs) i 0) f n a b (λ s l. get_or-take n xs s 0 l ∙ e s l))
+
+-- the same of a train's part of the words of all
+pub group_part : (ws : List ℕ) (k m n j a b : ℕ) → j ≡ n → k * 400 + n ≤ length ws
+    → group m (λ (i : ℕ). get_or (take j (drop (k * 400) ws)) i 0) (length (take j (drop (k * 400) ws))) a b ≡ group m (word_at ws k) n a b
+group_part ws k m n j a b e h =
+    ap (λ (x : ℕ). group m (λ (i : ℕ). get_or (take x (drop (k * 400) ws)) i 0) (length (take x (drop (k * 400) ws))) a b) e
+    ∙ group_first (drop (k * 400) ws) (word_at ws k) m n a b (omega (arith, length-drop (k * 400) ws)) (λ s _. get_or-drop (k * 400) ws s 0)
 
 -- a train's words with nothing held of a seat that is kept back
 abbrev pub put_aside : Option Seat → List ℕ → List ℕ

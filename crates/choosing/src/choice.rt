@@ -82,6 +82,22 @@ pub fn choose_all_at(
     choose_all(words, train, trip, people)
 }
 
+// The same of the train with `count` seats at a place of a memory that is lent as one slice.
+pub fn choose_all_lent(
+    all: &[u64],
+    place: usize,
+    count: u16,
+    train: Train,
+    trip: Trip,
+    people: u8,
+) -> Party
+    requires { (length all.now ≡ 25600) × ((place < 64) × ((count ≤ 400) × (people ≤ 8))) }
+    ensures { result ≡ party_of train trip (group people (word_at all.now place) count trip.from.0 trip.to.0) }
+{
+    let first = place * SEATS;
+    choose_all(&all[first..first + usize::from(count)], train, trip, people)
+}
+
 // The lowest seat of which anything is held.
 pub fn lowest_held(words: &[u64]) -> Option<Seat>
     requires { length words.now ≤ 400 }

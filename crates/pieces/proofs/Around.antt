@@ -1,8 +1,8 @@
 -- The runs of held stretches around a span. Assumes nothing.
-use Rattle.std.proofs.Common.{◌≡◌, ℕ, zero, suc, ◌+◌, ◌-◌, sym, ap, ◌∙◌, ⊎_elim, arith}
-use Rattle.std.proofs.lemmas.Bool.{cases_lt}
+use Rattle.std.proofs.Common.{◌≡◌, ℕ, zero, suc, ◌+◌, ◌-◌, ◌<◌, ◌≤◌, false, true, sym, ap, ◌∙◌, ⊎_elim, arith}
+use Rattle.std.proofs.lemmas.Bool.{cases_lt, cond-true}
 use Rattle.std.proofs.lemmas.Bool.Decides.{nat_tests}
-use Rattle.pieces.specs.Stretches.{holds, before, behind, spare, FirstOf, EndOf}
+use Rattle.pieces.specs.Stretches.{holds, before, behind, spare, Covers, FirstOf, EndOf}
 
 -- ---- back from stop a
 
@@ -32,6 +32,23 @@ end_count_of w b e (suc n) q f =
 
 pub end_count : (w b e : ℕ) → EndOf w b e → e ≡ b + behind w b (29 - b)
 end_count w b e f = end_count_of w b e (29 - b) (omega (arith, f.above, f.near)) f
+
+pub end_is : (w b e : ℕ) → b ≤ e → e ≤ 29 → Covers w b e → (e < 29 → holds w e ≡ false) → (e ≡ b + behind w b (29 - b)) × EndOf w b e
+end_is w b e h l c i = let f : EndOf w b e = record { above = h; near = l; all = c; stops = i } in (end_count w b e f, f)
+
+behind_held : (w k n : ℕ) → holds w k ≡ true → behind w k (suc n) ≡ suc (behind w (suc k) n)
+unfolding behind
+behind_held w k n h = cond-true (holds w k) (suc (behind w (suc k) n)) 0 h
+
+pub behind_run : (w b m n : ℕ) → Covers w b (b + m) → behind w b (m + n) ≡ m + behind w (b + m) n
+behind_run w b zero n c =
+    let p : b + 0 ≡ b = omega arith in
+    let q : 0 + n ≡ n = omega arith in
+    omega (arith, ap (behind w b) q, ap (λ (x : ℕ). behind w x n) p)
+behind_run w b (suc m) n c =
+    let p : suc b + m ≡ b + suc m = omega arith in
+    let q : suc m + n ≡ suc (m + n) = omega arith in
+    omega (arith, ap (behind w b) q, ap (λ (x : ℕ). behind w x n) p, behind_held w b (m + n) (c b (omega arith) (omega arith)), behind_run w (suc b) m n (λ k g h. c k (omega arith) (omega arith)))
 
 pub spare_is : (w a b s e : ℕ) → FirstOf w a s → EndOf w b e → (a - s) + (e - b) ≡ spare w a b
 unfolding spare

@@ -1,6 +1,6 @@
 -- The laws of `holds`. Assumes nothing.
-use Rattle.std.proofs.Common.{◌≡◌, ℕ, ◌+◌, ◌-◌, ◌%◌, ◌^◌, ◌<◌, ◌≤◌, min, max, Bool, true, false, not, ◌&&◌, ◌||◌, eqb, ltb, Decides, sym, refl, ap, ◌∙◌, arith}
-use lib.Bits.{bit_and, bit_or, bit_xor, and_self, xor_add_and}
+use Rattle.std.proofs.Common.{◌≡◌, ℕ, ◌+◌, ◌-◌, ◌%◌, ◌^◌, ◌<◌, ◌≤◌, min, max, Bool, true, false, not, ◌&&◌, ◌||◌, eqb, ltb, Decides, sym, refl, ap, ◌∙◌, lt_of_le_of_lt, arith, pow_pos, pow_mono}
+use lib.Bits.{bit_and, bit_or, bit_xor, and_self, xor_add_and, and_le_l, or_lt, xor_lt}
 use Rattle.std.specs.Int.{bit_at}
 use Rattle.std.proofs.lemmas.Bool.{eq-eqb, eqb-true}
 use Rattle.std.proofs.lemmas.Bool.Decides.{nat_tests, Decides-like, Decides-below_and}
@@ -134,3 +134,13 @@ covered_decides w a b =
   where
     each : (k : ℕ) → Decides (ltb k a || holds w k) (a ≤ k → holds w k ≡ true)
     each k = (λ e l. grind (arith, nat_tests), λ f. grind (arith, nat_tests))
+
+-- ---- no bit past the last stop
+
+pub less_lt : (w a b j : ℕ) → w < 2 ^ j → less w a b < 2 ^ j
+unfolding less
+less_lt w a b j h = xor_lt j w (bit_and w (span a b)) h (lt_of_le_of_lt (and_le_l w (span a b)) h)
+
+pub plus_lt : (w a b j : ℕ) → w < 2 ^ j → b ≤ j → plus w a b < 2 ^ j
+unfolding plus span
+plus_lt w a b j h i = let p : 2 ^ b ≤ 2 ^ j = pow_mono i in or_lt j w (span a b) h (omega (arith, pow_pos a, pow_pos b))

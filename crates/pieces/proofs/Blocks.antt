@@ -14,6 +14,15 @@ part_at xs i n s l = grind (arith, places)
 part_set : (xs : List ℕ) (i n s v : ℕ) → i + n ≤ length xs → s < n → put_mid i n xs (set (take n (drop i xs)) s v) ≡ set xs (i + s) v
 part_set xs i n s v h l = same_lists _ _ (grind (arith, places, length-set)) (λ k d g. grind (arith, places, length-set, get_or-set_at, get_or-set_other, cases_eq k (i + s)))
 
+-- one word of the part changed
+pub part_edit : (f : ℕ → ℕ) (xs ys : List ℕ) (i n m s : ℕ) → m ≡ n → i + n ≤ length xs → s < n → ys ≡ set (take m (drop i xs)) s (f (get_or (take m (drop i xs)) s 0))
+    → put_mid i m xs ys ≡ set xs (i + s) (f (get_or xs (i + s) 0))
+part_edit f xs ys i n m s e h l g =
+    ap (put_mid i m xs) g
+    ∙ ap (λ (j : ℕ). put_mid i j xs (set (take j (drop i xs)) s (f (get_or (take j (drop i xs)) s 0)))) e
+    ∙ part_set xs i n s (f (get_or (take n (drop i xs)) s 0)) h l
+    ∙ ap (λ (y : ℕ). set xs (i + s) (f y)) (part_at xs i n s l)
+
 -- ---- a train's part of a vector of words: it stands from i to e, and xs are the words as they are lent
 
 module _ (ws xs : List ℕ) (k i e : ℕ) (lent : xs ≡ ws) (from : i ≡ k * 400) (to : e ≡ k * 400 + 400) where
@@ -25,11 +34,7 @@ module _ (ws xs : List ℕ) (k i e : ℕ) (lent : xs ≡ ws) (from : i ≡ k * 4
       → ys ≡ set (take (e - i) (drop i xs)) s (f (get_or (take (e - i) (drop i xs)) s 0) a b)
       → take n (put_mid i (e - i) xs ys ++ drop (length (put_mid i (e - i) xs ys)) ws) ≡ altered f ws k s a b
   part_changed f ys n s a b long within near edit =
-      let m : e - i ≡ 400 = omega arith in
-      let v = f (get_or (train_at ws k) s 0) a b in
       let done : put_mid i (e - i) xs ys ≡ altered f ws k s a b =
-      ap₂ (λ (j l : ℕ). put_mid j l xs ys) from m
-      ∙ ap₂ (λ us vs. put_mid (k * 400) 400 us vs) lent (edit ∙ ap (λ us. set us s (f (get_or us s 0) a b)) part_is)
-      ∙ part_set ws (k * 400) 400 s v (omega arith) near
-      ∙ ap (λ (w : ℕ). set ws (at k s) (f w a b)) (part_at ws (k * 400) 400 s near) in
+      part_edit (λ (w : ℕ). f w a b) xs ys i 400 (e - i) s (omega arith) (omega (arith, ap length lent)) near edit
+      ∙ ap₂ (λ (j : ℕ) us. set us (j + s) (f (get_or us (j + s) 0) a b)) from lent in
       take_at (put_mid i (e - i) xs ys) (drop (length (put_mid i (e - i) xs ys)) ws) n (ap length done ∙ length-set ws (at k s) _ ∙ long) ∙ done

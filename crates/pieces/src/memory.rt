@@ -10,9 +10,16 @@ use crate::change::Change;
 use crate::names::{Seat, Stop};
 use crate::tally::Tally;
 use crate::trip::Trip;
-use crate::{seats, words};
+use crate::words;
 use std::alloc::{AllocError, Global};
 use std::ops::Range;
+
+mod lent;
+
+pub use lent::{
+    change_all_at, change_at, covers_at, holds_at, open_at, put_in_all_at, put_in_at,
+    take_out_all_at, take_out_at,
+};
 
 pub const SEATS: usize = 400;
 
@@ -81,7 +88,7 @@ impl Memory {
         requires { seat.0 < 400 }
         ensures { self.new.words.items ≡ altered C.changed self.old.words.items slot.index seat.0 trip.from.0 trip.to.0 }
     {
-        seats::change::<C>(&mut self.words[slot.range()], seat, trip);
+        change_at::<C>(&mut self.words, slot.index, seat, trip);
     }
 
     // Changes them of several seats, one after the other.
@@ -89,9 +96,7 @@ impl Memory {
         requires { AllByRecursion (λ (s : Chair). s.0 < 400) seats.now }
         ensures { self.new.words.items ≡ altered_all C.changed self.old.words.items slot.index seats.now trip.from.0 trip.to.0 }
     {
-        for seat in seats {
-            self.change::<C>(slot, *seat, trip);
-        }
+        change_all_at::<C>(&mut self.words, slot.index, seats, trip);
     }
 
     // Gives each of the `count` seats of a train the same word.
@@ -99,7 +104,7 @@ impl Memory {
         requires { count ≤ 400 }
         ensures { self.new.words.items ≡ placed self.old.words.items slot.index (seated count word) }
     {
-        seats::seat_all(&mut self.words[slot.range()], count, word);
+        open_at(&mut self.words, slot.index, count, word);
     }
 
     // Whether a seat covers the trip.

@@ -17,7 +17,7 @@ fn held_on(seats: &[u64], stop: Stop) -> u16
     requires { length seats.now ≤ 400 }
     ensures { result ≡ count_held_on stop.0 seats.now }
 {
-    seats.iter().filter(|word| held(**word, stop)).count() as u16
+    seats.iter().map(|word| u16::from(held(*word, stop))).sum()
 }
 
 impl Profile {

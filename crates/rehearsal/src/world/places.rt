@@ -47,12 +47,11 @@ fn count_sold(station: &Station, at: Stretch) -> usize
 fn count_waiting(channel: &Channel, skip: usize, at: Stretch) -> usize
     ensures { result ≡ count_by (has at.train.0 at.seat.0 at.stop.0) (drop skip (chan channel.now).waiting) }
 {
-    channel
-        .waiting()
-        .iter()
-        .skip(skip)
-        .filter(|piece| piece.has(at))
-        .count()
+    let waiting = channel.waiting();
+    if waiting.len() <= skip {
+        return 0;
+    }
+    waiting.range(skip..).filter(|piece| piece.has(at)).count()
 }
 
 // The same of the pieces that wait for a station.
